@@ -1,0 +1,5 @@
+// Games, the questions that a source of a game answers, and the causes of refusal.
+pub mod bits;
+pub mod player;
+pub mod refusal;
+pub mod source;

@@ -1,0 +1,6 @@
+// The two players of a game.
+#[derive(Clone, Copy, PartialEq, Eq, Debug)]
+pub enum Player {
+    One,
+    Two,
+}

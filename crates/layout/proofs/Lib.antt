@@ -1,0 +1,15 @@
+pub mod Bits
+pub mod Exclusive
+pub mod Joined
+pub mod Members
+pub mod Opens
+pub mod Placed
+pub mod Places
+pub mod Ready
+pub mod RowWritten
+pub mod SetWritten
+pub mod SetShown
+pub mod Shown
+pub mod Stands
+pub mod Targets
+pub mod Written
