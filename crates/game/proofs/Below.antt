@@ -139,9 +139,7 @@ ascends-below p n = ascends-within p n n (λ k l _. l)
 
 -- a number below 2 ^ k has no bit from k on
 pub bit-past : (c k i : ℕ) → c < 2 ^ k → k ≤ i → bit c i ≡ false
-unfolding bit
 bit-past c k i h l = let small : c < 2 ^ i = omega (arith, pow-mono l) in rw (div-eq-of-lt small)
 
 pub bit-zero : (i : ℕ) → bit 0 i ≡ false
-unfolding bit
 bit-zero i = rw zero-div

@@ -15,5 +15,5 @@ abbrev pub rank : (ℕ → Bool) → ℕ → ℕ
 rank p n = length (below p n)
 
 -- whether bit i, of weight 2 to the power i, stands in c
-unfoldable pub bit : ℕ → ℕ → Bool
+abbrev pub bit : ℕ → ℕ → Bool
 bit c i = eqb (c / 2 ^ i % 2) 1

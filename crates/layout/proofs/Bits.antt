@@ -16,25 +16,20 @@ use Rattle.layout.specs.Writing.{weigh}
 
 -- `c >> i & 1` and `c | 1 << i`
 pub bit-shift : (c i : ℕ) → c / 2 ^ i % 2 ≡ 1 → bit c i ≡ true
-unfolding bit
 bit-shift c i e = eq-eqb (c / 2 ^ i % 2) 1 e
 
 pub bit-shift-no : (c i : ℕ) → (c / 2 ^ i % 2 ≡ 1 → ⊥) → bit c i ≡ false
-unfolding bit
 bit-shift-no c i e = ne-eqb (c / 2 ^ i % 2) 1 e
 
 -- a standing bit as a number, and one that does not stand
 pub bit-one : (c i : ℕ) → bit c i ≡ true → c / 2 ^ i % 2 ≡ 1
-unfolding bit
 bit-one c i e = eqb-true (c / 2 ^ i % 2) 1 e
 
 pub bit-none : (c i : ℕ) → bit c i ≡ false → c / 2 ^ i % 2 ≡ 0
-unfolding bit
 bit-none c i e = let n = eqb-false (c / 2 ^ i % 2) 1 e in omega arith
 
 -- bits below k do not see what stands from k on
 pub bit-low : (h k c i : ℕ) → i < k → bit (h * 2 ^ k + c) i ≡ bit c i
-unfolding bit
 bit-low h k c i l = ap (λ n. eqb n 1) (ap (λ n. n % 2) quotient ∙ mul-add-mod-self-right (h * 2 ^ j) 2 (c / 2 ^ i))
   where
     j : ℕ

@@ -36,7 +36,6 @@ zero-state zero (suc i) e = absurd (both-ways _ (bit-past 1 1 (suc i) (omega ari
 zero-state (suc s) i e = absurd (both-ways _ (ap (λ t. bit (cond t 1 0) i) (eqb·suc-zero s) ∙ bit-zero i) e)
 
 bit-one-zero : bit 1 0 ≡ true
-unfolding bit
 bit-one-zero = refl
 
 one-next : (s a b : ℕ) → Chosen one-state s a b → one-state .support s a b ≡ 0 ∷ []
@@ -68,7 +67,7 @@ one-state-game =
     }
 
 one-state-bytes : record-of one-state ≡ 0 ∷ 1 ∷ 1 ∷ 1 ∷ 0 ∷ 0 ∷ 0 ∷ 1 ∷ []
-unfolding record-of row-bytes set-bytes map-byte group weigh elem below bit
+unfolding record-of row-bytes set-bytes map-byte group weigh elem below
 one-state-bytes = refl
 
 one-state-record : Records (0 ∷ 1 ∷ 1 ∷ 1 ∷ 0 ∷ 0 ∷ 0 ∷ 1 ∷ []) one-state

@@ -6,10 +6,6 @@ use Rattle.game.specs.Below.{bit}
 use Rattle.game.proofs.Below.{bit-past}
 use Rattle.game.proofs.bits.has_bit.Needs as need
 
-pub returns-then-i-lt8 : need.returns-then-i-lt8
-unfolding bit
-returns-then-i-lt8 c = refl
-
 pub returns-else-i-lt8 : need.returns-else-i-lt8
 returns-else-i-lt8 c =
     let small : c .args .byte < 2 ^ 8 = omega arith in
