@@ -70,7 +70,7 @@ one-state-bytes : record-of one-state ≡ 0 ∷ 1 ∷ 1 ∷ 1 ∷ 0 ∷ 0 ∷ 0 
 unfolding record-of row-bytes set-bytes map-byte group weigh elem below
 one-state-bytes = refl
 
-one-state-record : Records (0 ∷ 1 ∷ 1 ∷ 1 ∷ 0 ∷ 0 ∷ 0 ∷ 1 ∷ []) one-state
+pub one-state-record : Records (0 ∷ 1 ∷ 1 ∷ 1 ∷ 0 ∷ 0 ∷ 0 ∷ 1 ∷ []) one-state
 one-state-record = record { game = one-state-game; bytes = one-state-bytes; short = omega arith }
 
 pub one-state-shown : Same one-state (shown (0 ∷ 1 ∷ 1 ∷ 1 ∷ 0 ∷ 0 ∷ 0 ∷ 1 ∷ []))

@@ -1,12 +1,11 @@
 // What a table answers, out of the record it was opened on.
 ghost use mathlib.Core.Path.{_≡_};
-ghost use mathlib.Core.Bool.{true, false, _&&_};
+ghost use mathlib.Core.List.{[]};
 ghost use Prim.Native.Nat.{_+_, _≤_};
 ghost use lib.ListN.{length, getD};
 ghost use Rattle.std.specs.Options.{Cases};
-ghost use Rattle.game.specs.Below.{bit};
 ghost use Rattle.game.specs.declared.player.Player.the-variants.{One, Two};
-ghost use Rattle.layout.specs.Reading.{states-in, moves-at, support-place, support-at, set-end};
+ghost use Rattle.layout.specs.Reading.{states-in, moves-at, support-at, set-at, set-end};
 use crate::members::count_bits;
 use crate::members::count_bits_below;
 use crate::members::count_members;
@@ -22,23 +21,32 @@ pub(crate) fn states(table: &Table) -> u16
     table.bytes[0] as u16 + 1
 }
 
+// The place of the row of a state, if the game has the state.
+fn find_row(table: &Table, state: u16) -> Option<usize>
+    ensures { λ r. ⌜ Cases r ((p : Player) → moves-at (now (now (table .entry) .bytes)) p state ≡ 0) (λ place. (place + 2 ≤ length (now (now (table .entry) .bytes))) × (getD (now (now (table .entry) .bytes)) place 0 ≡ moves-at (now (now (table .entry) .bytes)) One state) × (getD (now (now (table .entry) .bytes)) (place + 1) 0 ≡ moves-at (now (now (table .entry) .bytes)) Two state)) ⌝ }
+{
+    if state >= states(table) {
+        return None;
+    }
+    Some(table.places.rows[state as usize] as usize)
+}
+
 // the move set of a player at a state
 pub(crate) fn moves(table: &Table, player: Player, state: u16) -> u8
     ensures { λ r. ⌜ r ≡ moves-at (now (now (table .entry) .bytes)) player state ⌝ }
 {
-    if state >= states(table) {
-        return 0;
-    }
-    let place = table.places.rows[state as usize] as usize;
-    match player {
-        Player::One => table.bytes[place],
-        Player::Two => table.bytes[place + 1],
+    match find_row(table, state) {
+        None => 0,
+        Some(place) => match player {
+            Player::One => table.bytes[place],
+            Player::Two => table.bytes[place + 1],
+        },
     }
 }
 
 // The place of the support of two moves, if the players have them.
-pub(crate) fn find_support(table: &Table, state: u16, a: u8, b: u8) -> Option<usize>
-    ensures { λ r. ⌜ Cases r ((bit (moves-at (now (now (table .entry) .bytes)) One state) a && bit (moves-at (now (now (table .entry) .bytes)) Two state) b) ≡ false) (λ p. ((bit (moves-at (now (now (table .entry) .bytes)) One state) a && bit (moves-at (now (now (table .entry) .bytes)) Two state) b) ≡ true) × (p ≡ support-place (now (now (table .entry) .bytes)) state a b) × (p + 4 ≤ length (now (now (table .entry) .bytes))) × (set-end (now (now (table .entry) .bytes)) p ≤ length (now (now (table .entry) .bytes)))) ⌝ }
+fn find_support(table: &Table, state: u16, a: u8, b: u8) -> Option<usize>
+    ensures { λ r. ⌜ Cases r (support-at (now (now (table .entry) .bytes)) state a b ≡ []) (λ place. (support-at (now (now (table .entry) .bytes)) state a b ≡ set-at (now (now (table .entry) .bytes)) place) × (place + 4 ≤ length (now (now (table .entry) .bytes))) × (set-end (now (now (table .entry) .bytes)) place ≤ length (now (now (table .entry) .bytes)))) ⌝ }
 {
     let first = moves(table, Player::One, state);
     let second = moves(table, Player::Two, state);

@@ -9,6 +9,17 @@ pub(crate) struct Places {
     pub(crate) supports: [u16; 12000],
 }
 
+impl Places {
+    // No place is noted yet.
+    pub(crate) fn new() -> Places {
+        Places {
+            rows: [0; 256],
+            firsts: [0; 256],
+            supports: [0; 12000],
+        }
+    }
+}
+
 // How far reading has come: the place of the next byte, and the number of the next support.
 #[derive(Clone, Copy)]
 pub(crate) struct Cursor {

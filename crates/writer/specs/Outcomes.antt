@@ -19,5 +19,5 @@ pub data NotWritten (len room : ℕ) (t : Told) : Type 0 where
 -- The record bs is written into a buffer that held old and now holds new: the buffer begins with the record, and the
 -- bytes past it stay; or it is refused, and the whole buffer stays.
 abbrev pub Writes : List ℕ → List ℕ → List ℕ → Result ℕ Refusal → Type 0
-Writes bs old new (Ok len) = (len ≡ length bs) × (len ≤ 60000) × (new ≡ bs ++ drop len old)
+Writes bs old new (Ok len) = (len ≡ length bs) × (len ≤ 60000) × (len ≤ length old) × (new ≡ bs ++ drop len old)
 Writes bs old new (Err e) = (new ≡ old) × NotWritten (length bs) (length old) (told e)
