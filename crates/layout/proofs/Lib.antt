@@ -2,11 +2,13 @@ pub mod Bits
 pub mod Exclusive
 pub mod Joined
 pub mod Members
+pub mod Moves
 pub mod Opens
 pub mod Placed
 pub mod Places
 pub mod Ready
 pub mod RowWritten
+pub mod Sets
 pub mod SetWritten
 pub mod SetShown
 pub mod Shown

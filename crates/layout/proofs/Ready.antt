@@ -1,26 +1,22 @@
 -- That a record is ready to answer is a fact that holds in one way, so that a table can carry it.
 use mathlib.Core.Bool.{true}
 use mathlib.Core.List.{List}
-use mathlib.Core.Logic.{∥∥₁-elim, ⊎-elim}
-use mathlib.Core.Path.{_≡_, sym, ap, ap₂, subst, _∙_}
-use Prim.Native.Nat.{ℕ, _+_, _*_, _≤_, _<_}
-use native.Mathlib.Nat.{add-zero}
+use mathlib.Core.Logic.{∥∥₁-elim}
+use mathlib.Core.Path.{_≡_, sym, ap, subst, _∙_}
+use Prim.Native.Nat.{ℕ, _+_, _≤_, _<_}
 use native.Mathlib.Omega.{arith}
-use lib.Dec.{ltb}
 use lib.ListN.{length, getD}
-use Rattle.std.proofs.shelf.Tests.{both-ways, cases-lt, lt-ltb, le-ltb, cond-true, cond-false, cond-both}
 use Rattle.game.specs.Below.{bit}
 use Rattle.game.specs.declared.player.Player.{Player}
 use Rattle.game.specs.declared.player.Player.the-variants.{One, Two}
-use Rattle.game.proofs.Below.{bit-zero}
 use native.Mathlib.Bridge.{le-prop}
 use std.HLevel.{Π-prop}
 use base.Stored.{codedℕ}
 use denote.Struct.Props.{≡-prop, three-prop, four-prop}
 use Rattle.layout.specs.Placed.{Placed, Ready}
-use Rattle.layout.specs.Reading.{set-end, sets-end, moves-in, row-sets, row-place, states-in, offset, moves-at, support-index, support-place, Bytes, GoodGroup, GoodSet, GoodSupport, GoodRow, GoodRecord}
-use Rattle.layout.proofs.Members.{index-below}
-use Rattle.layout.proofs.SetShown.{at-small, set-shows}
+use Rattle.layout.specs.Reading.{set-end, sets-end, row-sets, row-place, states-in, offset, moves-at, support-index, support-place, Bytes, GoodGroup, GoodSet, GoodSupport, GoodRow, GoodRecord}
+use Rattle.layout.proofs.Moves.{moves-at-in, moves-at-past, move-state, support-below, support-good}
+use Rattle.layout.proofs.SetShown.{set-shows}
 
 two-prop : {A B : Type 0} → IsProp A → IsProp B → IsProp (A × B)
 two-prop a b p q = λ i. (a (p .0) (q .0) i, b (p .1) (q .1) i)
@@ -68,29 +64,15 @@ module _ (bs rows firsts supports : List ℕ) (ready : ∥ Ready bs rows firsts 
   pub row-inside : (s : ℕ) → s < states-in bs → getD rows s 0 + 2 ≤ length bs
   row-inside s l = subst (λ p. p + 2 ≤ length bs) (sym (row-noted s l)) (known .1 .2 s l .0)
 
-  moves-at-is : (p : Player) (s : ℕ) → s < states-in bs → moves-at bs p s ≡ getD bs (row-place bs s + offset p) 0
-  unfolding moves-at
-  moves-at-is p s l = cond-true (ltb s (states-in bs)) _ 0 (lt-ltb s (states-in bs) l)
-
   pub moves-noted : (p : Player) (s : ℕ) → s < states-in bs → getD bs (getD rows s 0 + offset p) 0 ≡ moves-at bs p s
-  moves-noted p s l = ap (λ q. getD bs (q + offset p) 0) (row-noted s l) ∙ sym (moves-at-is p s l)
+  moves-noted p s l = ap (λ q. getD bs (q + offset p) 0) (row-noted s l) ∙ sym (moves-at-in bs p s l)
 
   pub moves-outside : (p : Player) (s : ℕ) → states-in bs ≤ s → moves-at bs p s ≡ 0
-  unfolding moves-at
-  moves-outside p s l = cond-false (ltb s (states-in bs)) _ 0 (le-ltb s (states-in bs) l)
+  moves-outside p s l = moves-at-past bs p s l
 
   -- a state at which a player has a move is a state of the game
   pub moves-inside : (p : Player) (s i : ℕ) → bit (moves-at bs p s) i ≡ true → s < states-in bs
-  moves-inside p s i e = ⊎-elim (λ l. l) (λ l. absurd (both-ways (bit 0 i) (bit-zero i) (subst (λ c. bit c i ≡ true) (moves-outside p s l) e))) (cases-lt s (states-in bs))
-
-  pub moves-small : (p : Player) (s : ℕ) → moves-at bs p s < 256
-  unfolding moves-at
-  moves-small p s = cond-both (ltb s (states-in bs)) _ 0 (λ c. c < 256) (λ _. at-small bs (known .0) _) (λ _. omega arith)
-
-  row-sets-is : (s : ℕ) → s < states-in bs → row-sets bs (row-place bs s) ≡ moves-in (moves-at bs One s) * moves-in (moves-at bs Two s)
-  unfolding row-sets
-  row-sets-is s l =
-      ap₂ (λ c d. moves-in c * moves-in d) (ap (λ q. getD bs q 0) (sym (add-zero (row-place bs s))) ∙ sym (moves-at-is One s l)) (sym (moves-at-is Two s l))
+  moves-inside p s i e = move-state bs p s i e
 
   -- The support of two moves that the players have is noted under its number, and is a set inside the record.
   module _ (s a b k : ℕ) (e : bit (moves-at bs One s) a ≡ true) (f : bit (moves-at bs Two s) b ≡ true) (here : k ≡ support-index (moves-at bs One s) (moves-at bs Two s) a b) where
@@ -98,9 +80,7 @@ module _ (bs rows firsts supports : List ℕ) (ready : ∥ Ready bs rows firsts 
     inside = moves-inside One s a e
 
     few : k < row-sets bs (row-place bs s)
-    few =
-        subst (λ n. k < n) (sym (row-sets-is s inside))
-        (subst (λ i. i < moves-in (moves-at bs One s) * moves-in (moves-at bs Two s)) (sym here) (index-below (moves-at bs One s) (moves-at bs Two s) a b (moves-small One s) (moves-small Two s) e f))
+    few = subst (λ i. i < row-sets bs (row-place bs s)) (sym here) (support-below bs (known .0) s a b (e, f))
 
     pub support-room : getD firsts s 0 + k < 12000
     support-room = omega (arith, known .2 s inside .1, few)
@@ -109,12 +89,8 @@ module _ (bs rows firsts supports : List ℕ) (ready : ∥ Ready bs rows firsts 
     unfolding support-place
     support-noted = known .2 s inside .2 k few ∙ ap (sets-end bs (row-place bs s + 2)) here
 
-    support-good : GoodSupport (states-in bs) bs (support-place bs s a b)
-    unfolding support-place
-    support-good = subst (λ i. GoodSupport (states-in bs) bs (sets-end bs (row-place bs s + 2) i)) here (known .1 .2 s inside .3 k few)
-
     pub support-begins : support-place bs s a b + 4 ≤ length bs
-    support-begins = support-good .0 .0
+    support-begins = support-good bs (known .0) (known .1) s a b (e, f) .0 .0
 
     pub support-ends : set-end bs (support-place bs s a b) ≤ length bs
-    support-ends = set-shows (states-in bs) bs (support-place bs s a b) (known .0) (support-good .0) .0
+    support-ends = set-shows (states-in bs) bs (support-place bs s a b) (known .0) (support-good bs (known .0) (known .1) s a b (e, f) .0) .0

@@ -1,5 +1,5 @@
 -- A set with nothing wrong is written back as its bytes.
-use mathlib.Core.Bool.{Bool, true, false, _&&_, _||_}
+use mathlib.Core.Bool.{true, false, _&&_}
 use mathlib.Core.List.{List, [], _∷_, _++_, map}
 use mathlib.Core.Logic.{⊎-elim}
 use mathlib.Core.Path.{_≡_, refl, sym, ap, ap₂, _∙_}
@@ -7,35 +7,40 @@ use Prim.Native.Nat.{ℕ, zero, suc, _+_, _-_, _*_, _/_, _%_, _≤_, _<_}
 use native.Mathlib.Nat.{le-refl, add-zero}
 use native.Mathlib.Numerals.{add-one}
 use native.Mathlib.Omega.{arith}
-use lib.Dec.{eqb, ltb}
+use lib.Dec.{ltb}
 use lib.ListN.{length, getD, take, drop}
 use lib.Seq.{take-add}
 use Rattle.std.specs.Holes.{between}
-use Rattle.std.proofs.shelf.Lists.{drop-drop, drop-more, map-push, getD-past}
+use Rattle.std.proofs.shelf.Lists.{drop-drop, drop-more}
 use Rattle.std.proofs.shelf.Edits.{between-none, between-more}
-use Rattle.std.proofs.shelf.Tests.{cases-bool, cases-lt, eq-eqb, ne-eqb, lt-ltb, and-parts, and-from, or-left, or-right, or-from}
+use Rattle.std.proofs.shelf.Tests.{cases-bool, lt-ltb, and-parts, and-from}
 use Rattle.game.specs.Below.{below, bit}
 use Rattle.game.specs.Games.{Ascends}
-use Rattle.game.proofs.Below.{below-zero, below-suc-yes, below-suc-no, rank-zero, rank-lt, rank-yes, rank-no, below-same, below-at, ascends-within}
+use Rattle.game.proofs.Below.{below-zero, below-same, map-yes, map-no, below-at, rank-lt, ascends-within}
 use Rattle.layout.specs.Writing.{elem, group, filled, map-byte, set-bytes}
 use Rattle.layout.specs.Reading.{at, map-bit, group-place, set-end, in-set, set-at, GoodSet, GoodSupport, Bytes}
 use Rattle.layout.proofs.Bits.{weigh-bit, weigh-same, weigh-none, weigh-found}
+use Rattle.layout.proofs.Members.{in-group}
+use Rattle.layout.proofs.Places.{at-small, group-place-first, group-place-yes, group-place-no}
+use Rattle.layout.proofs.Sets.{elem-below}
 
 -- ---- parts of a list
 
 -- one element more at the front
-pub between-cons : (xs : List ℕ) (i k j : ℕ) → i + 1 ≡ k → i < j → i < length xs → between i j xs ≡ getD xs i 0 ∷ between k j xs
+between-cons : (xs : List ℕ) (i k j : ℕ) → i + 1 ≡ k → i < j → i < length xs → between i j xs ≡ getD xs i 0 ∷ between k j xs
 between-cons xs i k j e h l =
     let s : j - i ≡ suc (j - k) = omega arith in
     ap (take (j - i)) (drop-more xs i 0 l) ∙ ap₂ (λ n m. take n (getD xs i 0 ∷ drop m xs)) s e
 
+pub between-two : (xs : List ℕ) (i k l j : ℕ) → i + 1 ≡ k → k + 1 ≡ l → l ≤ j → l ≤ length xs → between i j xs ≡ getD xs i 0 ∷ getD xs k 0 ∷ between l j xs
+between-two xs i k l j e f h m =
+    between-cons xs i k j e (omega arith) (omega arith) ∙ ap (λ ys. getD xs i 0 ∷ ys) (between-cons xs k l j f (omega arith) (omega arith))
+
 between-four : (xs : List ℕ) (p j : ℕ) → p + 4 ≤ j → p + 4 ≤ length xs
     → between p j xs ≡ getD xs p 0 ∷ getD xs (p + 1) 0 ∷ getD xs (p + 2) 0 ∷ getD xs (p + 3) 0 ∷ between (p + 4) j xs
 between-four xs p j h l =
-    between-cons xs p (p + 1) j refl (omega arith) (omega arith)
-    ∙ ap (λ ys. getD xs p 0 ∷ ys) (between-cons xs (p + 1) (p + 2) j (omega arith) (omega arith) (omega arith))
-    ∙ ap (λ ys. getD xs p 0 ∷ getD xs (p + 1) 0 ∷ ys) (between-cons xs (p + 2) (p + 3) j (omega arith) (omega arith) (omega arith))
-    ∙ ap (λ ys. getD xs p 0 ∷ getD xs (p + 1) 0 ∷ getD xs (p + 2) 0 ∷ ys) (between-cons xs (p + 3) (p + 4) j (omega arith) (omega arith) (omega arith))
+    between-two xs p (p + 1) (p + 2) j refl (omega arith) (omega arith) (omega arith)
+    ∙ ap (λ ys. getD xs p 0 ∷ getD xs (p + 1) 0 ∷ ys) (between-two xs (p + 2) (p + 3) (p + 4) j (omega arith) (omega arith) h l)
 
 -- two parts, one behind the other
 pub between-join : (xs : List ℕ) (i j k : ℕ) → i ≤ j → j ≤ k → between i j xs ++ between j k xs ≡ between i k xs
@@ -46,62 +51,7 @@ between-join xs i j k h l =
     ∙ sym (take-add (j - i) (k - j) (drop i xs))
     ∙ ap (λ n. take n (drop i xs)) t
 
--- ---- members of a list
-
-elem-push-same : (x : ℕ) (ys : List ℕ) → elem x (ys ++ x ∷ []) ≡ true
-unfolding elem
-elem-push-same x [] = or-left (eqb x x) false (eq-eqb x x refl)
-elem-push-same x (y ∷ ys) = or-right (eqb x y) (elem x (ys ++ x ∷ [])) (elem-push-same x ys)
-
-elem-push-other : (x y : ℕ) (ys : List ℕ) → (x ≡ y → ⊥) → elem x (ys ++ y ∷ []) ≡ elem x ys
-unfolding elem
-elem-push-other x y [] n = or-from (eqb x y) false (ne-eqb x y n) refl
-elem-push-other x y (z ∷ zs) n = ap (λ b. eqb x z || b) (elem-push-other x y zs n)
-
--- one number more does not change whether another is a member
-elem-below-other : (q : ℕ → Bool) (n s : ℕ) → (s ≡ n → ⊥) → elem s (below q (suc n)) ≡ elem s (below q n)
-elem-below-other q n s d =
-    ⊎-elim
-    (λ e. ap (elem s) (below-suc-yes q n e) ∙ elem-push-other s n (below q n) d)
-    (λ e. ap (elem s) (below-suc-no q n e))
-    (cases-bool (q n))
-
-pub elem-past : (q : ℕ → Bool) (n s : ℕ) → n ≤ s → elem s (below q n) ≡ false
-elem-past q zero s h = ap (elem s) (below-zero q) ∙ unfold elem in refl
-elem-past q (suc n) s h = elem-below-other q n s (omega arith) ∙ elem-past q n s (omega arith)
-
-elem-below-last : (q : ℕ → Bool) (n : ℕ) → elem n (below q (suc n)) ≡ q n
-elem-below-last q n =
-    ⊎-elim
-    (λ e. ap (elem n) (below-suc-yes q n e) ∙ elem-push-same n (below q n) ∙ sym e)
-    (λ e. ap (elem n) (below-suc-no q n e) ∙ elem-past q n n (le-refl n) ∙ sym e)
-    (cases-bool (q n))
-
-pub elem-below : (q : ℕ → Bool) (n s : ℕ) → s < n → elem s (below q n) ≡ q s
-elem-below q zero s h = absurd (omega arith)
-elem-below q (suc n) s h =
-    ⊎-elim
-    (λ l. elem-below-other q n s (omega arith) ∙ elem-below q n s l)
-    (λ l. let e : n ≡ s = omega arith in rw (← e) (elem-below-last q n))
-    (cases-lt s n)
-
 -- ---- the groups of a set
-
--- each byte, also past the end, where 0 is read
-pub at-small : (bs : List ℕ) → Bytes bs → (k : ℕ) → at bs k < 256
-at-small bs small k = ⊎-elim (small k) (λ l. omega (arith, getD-past bs k 0 l)) (cases-lt k (length bs))
-
-pub group-place-zero : (bs : List ℕ) (p : ℕ) → group-place bs p 0 ≡ p + 4
-unfolding group-place
-group-place-zero bs p = omega (arith, rank-zero (map-bit bs p))
-
-pub group-place-yes : (bs : List ℕ) (p g : ℕ) → map-bit bs p g ≡ true → group-place bs p (suc g) ≡ group-place bs p g + 1
-unfolding group-place
-group-place-yes bs p g e = omega (arith, rw (add-one g) at (rank-yes (map-bit bs p) g e))
-
-pub group-place-no : (bs : List ℕ) (p g : ℕ) → map-bit bs p g ≡ false → group-place bs p (suc g) ≡ group-place bs p g
-unfolding group-place
-group-place-no bs p g e = omega (arith, rw (add-one g) at (rank-no (map-bit bs p) g e))
 
 -- byte j of the map has group 8 j + i as bit i says
 map-bit-is : (bs : List ℕ) (p j i : ℕ) → i < 8 → map-bit bs p (8 * j + i) ≡ bit (at bs (p + j)) i
@@ -111,17 +61,9 @@ map-bit-is bs p j i l =
     let r : (8 * j + i) % 8 ≡ i = omega arith in
     ap₂ (λ x y. bit (at bs (p + x)) y) q r
 
--- the set has state 8 g + i as bit i of group g says
-in-set-is : (bs : List ℕ) (p g i : ℕ) → i < 8 → in-set bs p (8 * g + i) ≡ (map-bit bs p g && bit (at bs (group-place bs p g)) i)
-unfolding in-set
-in-set-is bs p g i l =
-    let q : (8 * g + i) / 8 ≡ g = omega arith in
-    let r : (8 * g + i) % 8 ≡ i = omega arith in
-    ap₂ (λ x y. map-bit bs p x && bit (at bs (group-place bs p x)) y) q r
-
 elem-set : (bs : List ℕ) (p g i : ℕ) → g < 32 → i < 8 → elem (8 * g + i) (set-at bs p) ≡ (map-bit bs p g && bit (at bs (group-place bs p g)) i)
 unfolding set-at
-elem-set bs p g i h l = elem-below (in-set bs p) 256 (8 * g + i) (omega arith) ∙ in-set-is bs p g i l
+elem-set bs p g i h l = elem-below (in-set bs p) 256 (8 * g + i) (omega arith) ∙ in-group bs p g i l
 
 group-yes : (bs : List ℕ) (p g : ℕ) → Bytes bs → g < 32 → map-bit bs p g ≡ true → group (set-at bs p) g ≡ at bs (group-place bs p g)
 unfolding group
@@ -151,21 +93,21 @@ module _ (n : ℕ) (bs : List ℕ) (p : ℕ) (small : Bytes bs) (good : GoodSet 
   groups-are : (g : ℕ) → g ≤ 32
       → (p + 4 ≤ group-place bs p g) × (group-place bs p g ≤ length bs) × (map (group (set-at bs p)) (below (map-bit bs p) g) ≡ between (p + 4) (group-place bs p g) bs)
   groups-are zero h =
-      let z = group-place-zero bs p in
+      let z = group-place-first bs p in
       (omega arith, omega arith, ap (map (group (set-at bs p))) (below-zero (map-bit bs p)) ∙ rw z (sym (between-none bs (p + 4))))
   groups-are (suc g) h =
       let ih = groups-are g (omega arith) in
+      rw (← (add-one g)) (
       ⊎-elim
       (λ e. let here = good .1 g h e in rw (group-place-yes bs p g e) (
         omega arith,
         omega arith,
-        ap (map (group (set-at bs p))) (below-suc-yes (map-bit bs p) g e)
-            ∙ map-push (group (set-at bs p)) (below (map-bit bs p) g) g
+        map-yes (group (set-at bs p)) (map-bit bs p) g e
             ∙ ap₂ (λ xs x. xs ++ x ∷ []) (ih .2) (group-yes bs p g small h e)
             ∙ sym (between-more bs (p + 4) (group-place bs p g) 0 (ih .0) (here .0)),
       ))
-      (λ e. rw (group-place-no bs p g e, below-suc-no (map-bit bs p) g e) ih)
-      (cases-bool (map-bit bs p g))
+      (λ e. rw (group-place-no bs p g e, map-no (group (set-at bs p)) (map-bit bs p) g e) ih)
+      (cases-bool (map-bit bs p g)))
 
   set-bytes-are : set-bytes (set-at bs p) ≡ between p (group-place bs p 32) bs
   unfolding set-bytes
@@ -205,15 +147,5 @@ support-some n bs p small good =
     let some : 1 ≤ c = good .0 .1 g (found .0) (found .1) .1 in
     let found-bit = weigh-found (bit c) 8 (rw (weigh-bit c 8 (at-small bs small (group-place bs p g))) some) in
     let i : ℕ = found-bit .0 in
-    let has : in-set bs p (8 * g + i) ≡ true = in-set-is bs p g i (found-bit .1) ∙ and-from _ _ (found .1) (found-bit .2) in
+    let has : in-set bs p (8 * g + i) ≡ true = in-group bs p g i (found-bit .1) ∙ and-from _ _ (found .1) (found-bit .2) in
     omega (arith, rank-lt (in-set bs p) (8 * g + i) 256 (omega arith) has)
-
--- ---- the place after a set
-
-pub set-end-le : (bs : List ℕ) (p : ℕ) → p + 4 ≤ set-end bs p
-unfolding set-end
-set-end-le bs p = omega arith
-
-pub support-end : (n : ℕ) (bs : List ℕ) (p : ℕ) → GoodSupport n bs p → p + 5 ≤ set-end bs p
-unfolding set-end
-support-end n bs p good = omega (arith, good .1)

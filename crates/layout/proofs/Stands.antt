@@ -1,9 +1,9 @@
 -- A list that stands at a place of another, and its parts.
 use mathlib.Core.List.{List, _++_}
-use mathlib.Core.Path.{_≡_, refl, sym, ap, ap₂, _∙_}
+use mathlib.Core.Path.{_≡_, refl, sym, ap, _∙_}
 use Prim.Native.Nat.{ℕ, _+_, _≤_, _<_}
 use native.Mathlib.Omega.{arith}
-use lib.ListN.{length, getD, take, drop, length-take, length-drop, length-append, take-append-drop}
+use lib.ListN.{length, getD, take, drop, length-take, length-drop, length-append}
 use Rattle.std.proofs.shelf.Lists.{getD-take, getD-drop, take-take, take-at, take-all, drop-at, drop-take, drop-drop}
 
 -- ys stands at place p of bs
@@ -31,15 +31,6 @@ stands-rest xs ys p bs h =
     ∙ ap (λ n. drop (length xs) (take n (drop p bs))) (sym (length-append xs ys))
     ∙ ap (drop (length xs)) h
     ∙ drop-at xs ys (length xs) refl
-
--- the same, with what stands before and behind
-pub stands-split : (ys : List ℕ) (p : ℕ) (bs : List ℕ) → Stands ys p bs → bs ≡ take p bs ++ (ys ++ drop (p + length ys) bs)
-stands-split ys p bs h =
-    sym (take-append-drop p bs)
-    ∙ ap (λ zs. take p bs ++ zs) (sym (take-append-drop (length ys) (drop p bs)) ∙ ap₂ _++_ h (drop-drop (length ys) p bs))
-
-pub stands-between : (xs ys zs : List ℕ) → Stands ys (length xs) (xs ++ (ys ++ zs))
-stands-between xs ys zs = ap (take (length ys)) (drop-at xs (ys ++ zs) (length xs) refl) ∙ take-at ys zs (length ys) refl
 
 pub stands-behind : (xs ys : List ℕ) → Stands ys (length xs) (xs ++ ys)
 stands-behind xs ys = ap (take (length ys)) (drop-at xs ys (length xs) refl) ∙ take-all (length ys) ys (omega arith)

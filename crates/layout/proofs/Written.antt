@@ -1,36 +1,30 @@
 -- The bytes of a record are good, and they show the game that was written.
-use mathlib.Core.Bool.{true, _&&_}
+use mathlib.Core.Bool.{true}
 use mathlib.Core.List.{List, [], _∷_, _++_}
 use mathlib.Core.Logic.{inl, inr}
 use mathlib.Core.Path.{_≡_, refl, sym, ap, subst, _∙_}
 use Prim.Native.Nat.{ℕ, zero, suc, _+_, _-_, _≤_, _<_}
+use native.Mathlib.Numerals.{add-one}
 use native.Mathlib.Omega.{arith}
-use lib.ListN.{length, length-append}
+use lib.ListN.{length}
 use Rattle.std.specs.Joined.{joined}
-use Rattle.std.proofs.shelf.Lists.{joined-more}
-use Rattle.std.proofs.shelf.Tests.{lt-ltb, le-ltb, cases-lt, cases-bool, cond-true, cond-false, and-parts, and-from, both-ways}
-use Rattle.game.specs.Below.{below, bit}
+use Rattle.std.proofs.shelf.Tests.{cases-lt}
+use Rattle.game.specs.Below.{below}
 use Rattle.game.specs.Games.{Game, WellFormed, Chosen, Same}
 use Rattle.game.specs.declared.player.Player.{Player}
 use Rattle.game.specs.declared.player.Player.the-variants.{One, Two}
-use Rattle.game.proofs.Below.{below-add, bit-zero}
+use Rattle.game.proofs.Below.{bit-some}
 use Rattle.layout.specs.Writing.{row-bytes, record-of, Records}
 use Rattle.layout.specs.Reading.{at, row-end, row-place, states-in, offset, moves-at, set-at, support-at, support-place, shown, GoodRow, GoodRecord}
-use Rattle.layout.proofs.Stands.{Stands, stands-front, stands-rest, stands-behind}
-use Rattle.layout.proofs.Joined.{joined-append}
+use Rattle.layout.proofs.Joined.{joined-none, joined-yes, joined-front, length-joined-yes}
+use Rattle.layout.proofs.Moves.{cases-chosen, moves-at-in, moves-at-past, support-at-chosen, support-at-other}
+use Rattle.layout.proofs.Places.{row-place-first, row-place-more}
 use Rattle.layout.proofs.RowWritten.{first-written, second-written, row-end-written, good-row-written, row-support-written}
+use Rattle.layout.proofs.Stands.{Stands, stands-front, stands-rest, stands-behind}
 
 -- the rows of the first s states
 abbrev rows : Game → ℕ → List ℕ
 rows g s = joined (row-bytes g) (below (λ _. true) s)
-
-rows-more : (g : Game) (s : ℕ) → rows g (suc s) ≡ rows g s ++ row-bytes g s
-unfolding below
-rows-more g s = sym (joined-more (row-bytes g) [] (below (λ _. true) s) s)
-
-rows-front : (g : Game) (s n : ℕ) → s ≤ n → (ys : List ℕ) × (rows g n ≡ rows g s ++ ys)
-rows-front g s n h =
-    (_, ap (rows g) {y = s + (n - s)} (omega arith) ∙ ap (joined (row-bytes g)) (below-add (λ _. true) s (n - s)) ∙ joined-append (row-bytes g) (below (λ _. true) s) _)
 
 module _ (g : Game) (w : WellFormed g) (bs : List ℕ) (e : record-of g ≡ bs) where
   record-parts : ((g .size - 1) ∷ []) ++ rows g (g .size) ≡ bs
@@ -42,17 +36,17 @@ module _ (g : Game) (w : WellFormed g) (bs : List ℕ) (e : record-of g ≡ bs) 
 
   row-stands : (s : ℕ) → s < g .size → Stands (row-bytes g s) (1 + length (rows g s)) bs
   row-stands s l =
-      let (ys, front) = rows-front g (suc s) (g .size) l in
+      let (ys, front) = joined-front (row-bytes g) (λ _. true) (s + 1) (g .size) (omega arith) in
       let all : Stands (rows g (g .size)) 1 bs = subst (Stands (rows g (g .size)) 1) record-parts (stands-behind ((g .size - 1) ∷ []) (rows g (g .size))) in
-      let some : Stands (rows g (suc s)) 1 bs = stands-front (rows g (suc s)) ys 1 bs (subst (λ zs. Stands zs 1 bs) front all) in
-      stands-rest (rows g s) (row-bytes g s) 1 bs (subst (λ zs. Stands zs 1 bs) (rows-more g s) some)
+      let some : Stands (rows g (s + 1)) 1 bs = stands-front (rows g (s + 1)) ys 1 bs (subst (λ zs. Stands zs 1 bs) front all) in
+      stands-rest (rows g s) (row-bytes g s) 1 bs (subst (λ zs. Stands zs 1 bs) (joined-yes (row-bytes g) (λ _. true) s refl) some)
 
   row-place-written : (s : ℕ) → s ≤ g .size → row-place bs s ≡ 1 + length (rows g s)
-  unfolding row-place below
-  row-place-written zero l = refl
+  row-place-written zero l = omega (arith, row-place-first bs, ap length (joined-none (row-bytes g) (λ _. true)))
   row-place-written (suc s) l =
-      ap (row-end bs) (row-place-written s (omega arith)) ∙ row-end-written g w s l bs (1 + length (rows g s)) (row-stands s l)
-      ∙ omega (arith, ap length (rows-more g s), length-append (rows g s) (row-bytes g s))
+      rw (← (add-one s)) (
+      row-place-more bs s ∙ ap (row-end bs) (row-place-written s (omega arith)) ∙ row-end-written g w s l bs (1 + length (rows g s)) (row-stands s l)
+      ∙ omega (arith, length-joined-yes (row-bytes g) (λ _. true) s refl))
 
   -- the row of state s stands at its place
   stands-at-place : (s : ℕ) → s < g .size → Stands (row-bytes g s) (row-place bs s) bs
@@ -71,11 +65,10 @@ module _ (g : Game) (w : WellFormed g) (bs : List ℕ) (e : record-of g ≡ bs) 
   choices-written Two s l = second-written g w s l bs (row-place bs s) (stands-at-place s l)
 
   moves-written : (p : Player) (s : ℕ) → moves-at bs p s ≡ g .choices p s
-  unfolding moves-at
   moves-written p s =
       elim (cases-lt s (g .size)) [
-        | inl l ↦ cond-true _ _ _ (lt-ltb s (states-in bs) (omega (arith, states-written))) ∙ choices-written p s l
-        | inr l ↦ cond-false _ _ _ (le-ltb s (states-in bs) (omega (arith, states-written))) ∙ sym (w .no-move p s l)
+        | inl l ↦ moves-at-in bs p s (omega (arith, states-written)) ∙ choices-written p s l
+        | inr l ↦ moves-at-past bs p s (omega (arith, states-written)) ∙ sym (w .no-move p s l)
       ]
 
   -- moves are chosen only at a state
@@ -83,7 +76,7 @@ module _ (g : Game) (w : WellFormed g) (bs : List ℕ) (e : record-of g ≡ bs) 
   chosen-state s a b h =
       elim (cases-lt s (g .size)) [
         | inl l ↦ l
-        | inr l ↦ absurd (both-ways (bit (g .choices One s) a) (ap (λ c. bit c a) (w .no-move One s l) ∙ bit-zero a) (h .0))
+        | inr l ↦ absurd (omega (arith, bit-some (g .choices One s) a (h .0), w .no-move One s l))
       ]
 
   chosen-written : (s a b : ℕ) → Chosen g s a b → set-at bs (support-place bs s a b) ≡ g .support s a b
@@ -93,12 +86,11 @@ module _ (g : Game) (w : WellFormed g) (bs : List ℕ) (e : record-of g ≡ bs) 
       rw (moves-written One s, moves-written Two s) (row-support-written g w s l bs (row-place bs s) (stands-at-place s l) a b h)
 
   support-written : (s a b : ℕ) → support-at bs s a b ≡ g .support s a b
-  unfolding support-at
   support-written s a b =
-      rw (moves-written One s, moves-written Two s) (elim (cases-bool (bit (g .choices One s) a && bit (g .choices Two s) b)) [
-        | inl t ↦ cond-true _ _ _ t ∙ chosen-written s a b (and-parts _ _ t)
-        | inr f ↦ cond-false _ _ _ f ∙ sym (w .no-next s a b (λ h. both-ways _ f (and-from _ _ (h .0) (h .1))))
-      ])
+      elim (cases-chosen g s a b) [
+        | inl h ↦ support-at-chosen bs s a b (rw (moves-written One s, moves-written Two s) h) ∙ chosen-written s a b h
+        | inr n ↦ support-at-other bs s a b (λ h. n (rw (moves-written One s, moves-written Two s) at h)) ∙ sym (w .no-next s a b n)
+      ]
 
   same-written : Same g (shown bs)
   same-written = record { size = sym states-written; choices = λ p s. sym (moves-written p s); support = λ s a b. sym (support-written s a b) }

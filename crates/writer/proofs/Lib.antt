@@ -1,4 +1,3 @@
-pub mod Joins
 pub mod Members
 pub mod Rows
 pub mod Sets

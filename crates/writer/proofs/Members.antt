@@ -1,5 +1,5 @@
 -- The bytes of the groups of a list of states, one member on.
-use mathlib.Core.Bool.{Bool, true, false, cond, _||_}
+use mathlib.Core.Bool.{true, false, _||_}
 use mathlib.Core.List.{List, [], _∷_, _++_}
 use mathlib.Core.Logic.{inl, inr}
 use mathlib.Core.Path.{_≡_, refl, sym, ap, _∙_}
@@ -7,36 +7,18 @@ use Prim.Native.Nat.{ℕ, zero, suc, _+_, _*_, _/_, _%_, _^_, _≤_, _<_}
 use native.Mathlib.Omega.{arith}
 use lib.Dec.{eqb}
 use lib.ListN.{length, getD, set, take, replicate}
-use Rattle.std.proofs.shelf.Lists.{take-more, length-set, getD-set-same, getD-set-other, length-replicate, getD-replicate}
+use Rattle.std.proofs.shelf.Lists.{take-more, length-push, length-set, getD-push, getD-set-same, getD-set-other, length-replicate, getD-replicate}
 use Rattle.std.proofs.shelf.Bits.{one-shl}
-use Rattle.std.proofs.shelf.Tests.{eq-eqb, ne-eqb, or-left, or-right, or-from, cases-eq}
+use Rattle.std.proofs.shelf.Tests.{ne-eqb, or-from, cases-eq}
 use Rattle.game.specs.Games.{Ascends}
-use Rattle.layout.specs.Writing.{weigh, elem, group}
-use Rattle.layout.proofs.Bits.{weigh-lt, weigh-none, weigh-same}
+use Rattle.game.proofs.Below.{ascends-at}
+use Rattle.layout.specs.Writing.{elem, group}
+use Rattle.layout.proofs.Bits.{weigh-lt, weigh-none, weigh-same, weigh-add}
+use Rattle.layout.proofs.Sets.{elem-at}
 use Rattle.writer.specs.Sets.{Gathers}
 
--- one more bit passes
-weigh-add : (p q : ℕ → Bool) (k i : ℕ) → i < k → p i ≡ false → q i ≡ true → ((j : ℕ) → (j ≡ i → ⊥) → q j ≡ p j) → weigh q k ≡ weigh p k + 2 ^ i
-unfolding weigh
-weigh-add p q zero i h e f same = absurd (omega arith)
-weigh-add p q (suc k) i h e f same =
-    elim (cases-eq i k) [
-      | inl is ↦
-          let rest : weigh q k ≡ weigh p k = weigh-same q p k (λ j l. same j (λ z. omega arith)) in
-          let old : p k ≡ false = ap p (sym is) ∙ e in
-          let now : q k ≡ true = ap q (sym is) ∙ f in
-          let power : 2 ^ i ≡ 2 ^ k = ap (λ n. 2 ^ n) is in
-          omega (arith, ap (λ b. cond b (2 ^ k) 0) old, ap (λ b. cond b (2 ^ k) 0) now)
-      | inr not ↦
-          let rest : weigh q k ≡ weigh p k + 2 ^ i = weigh-add p q k i (omega arith) e f same in
-          let last : q k ≡ p k = same k (λ z. not (sym z)) in
-          omega (arith, ap (λ b. cond b (2 ^ k) 0) last)
-    ]
-
 elem-push : (x : ℕ) (ys : List ℕ) → elem x (ys ++ x ∷ []) ≡ true
-unfolding elem
-elem-push x [] = or-left (eqb x x) false (eq-eqb x x refl)
-elem-push x (y ∷ ys) = or-right (eqb x y) (elem x (ys ++ x ∷ [])) (elem-push x ys)
+elem-push x ys = rw (getD-push ys x 0 (length ys) refl) at (elem-at (ys ++ x ∷ []) (length ys) (omega (arith, length-push ys x)))
 
 elem-other : (x t : ℕ) (ys : List ℕ) → (x ≡ t → ⊥) → elem x (ys ++ t ∷ []) ≡ elem x ys
 unfolding elem
@@ -44,33 +26,25 @@ elem-other x t [] not = or-from (eqb x t) false (ne-eqb x t not) refl
 elem-other x t (y ∷ ys) not = ap (λ b. eqb x y || b) (elem-other x t ys not)
 
 -- the group of the new member
-pub group-push : (xs : List ℕ) (t : ℕ) → elem t xs ≡ false → group (xs ++ t ∷ []) (t / 8) ≡ group xs (t / 8) + 2 ^ (t % 8)
+group-push : (xs : List ℕ) (t : ℕ) → elem t xs ≡ false → group (xs ++ t ∷ []) (t / 8) ≡ group xs (t / 8) + 2 ^ (t % 8)
 unfolding group
 group-push xs t e =
     let whole : 8 * (t / 8) + t % 8 ≡ t = omega arith in
     weigh-add (λ i. elem (8 * (t / 8) + i) xs) (λ i. elem (8 * (t / 8) + i) (xs ++ t ∷ [])) 8 (t % 8) (omega arith) (ap (λ n. elem n xs) whole ∙ e) (ap (λ n. elem n (xs ++ t ∷ [])) whole ∙ elem-push t xs) (λ j not. elem-other (8 * (t / 8) + j) t xs (λ z. not (omega arith)))
 
 -- every other group
-pub group-other : (xs : List ℕ) (t g : ℕ) → (g ≡ t / 8 → ⊥) → group (xs ++ t ∷ []) g ≡ group xs g
+group-other : (xs : List ℕ) (t g : ℕ) → (g ≡ t / 8 → ⊥) → group (xs ++ t ∷ []) g ≡ group xs g
 unfolding group
 group-other xs t g not =
     weigh-same (λ i. elem (8 * g + i) (xs ++ t ∷ [])) (λ i. elem (8 * g + i) xs) 8 (λ i l. elem-other (8 * g + i) t xs (λ z. not (omega arith)))
 
--- members of an ascending list
-pub ascends-from : (m n : ℕ) (xs : List ℕ) (k : ℕ) → Ascends m n xs → k < length xs → (m ≤ getD xs k 0) × (getD xs k 0 < n)
-ascends-from m n [] k h l = absurd (omega arith)
-ascends-from m n (x ∷ xs) zero h l = (h .0, h .1)
-ascends-from m n (x ∷ xs) (suc k) h l =
-    let rest : (suc x ≤ getD xs k 0) × (getD xs k 0 < n) = ascends-from (suc x) n xs k (h .2) (omega arith) in
-    (omega (arith, h .0, rest .0), rest .1)
-
 -- no member stands twice
-pub ascends-new : (m n : ℕ) (xs : List ℕ) (k : ℕ) → Ascends m n xs → k < length xs → elem (getD xs k 0) (take k xs) ≡ false
+ascends-new : (m n : ℕ) (xs : List ℕ) (k : ℕ) → Ascends m n xs → k < length xs → elem (getD xs k 0) (take k xs) ≡ false
 unfolding elem
 ascends-new m n [] k h l = absurd (omega arith)
 ascends-new m n (x ∷ xs) zero h l = refl
 ascends-new m n (x ∷ xs) (suc k) h l =
-    or-from (eqb (getD xs k 0) x) (elem (getD xs k 0) (take k xs)) (ne-eqb (getD xs k 0) x (λ z. omega (arith, ascends-from (suc x) n xs k (h .2) (omega arith) .0))) (ascends-new (suc x) n xs k (h .2) (omega arith))
+    or-from (eqb (getD xs k 0) x) (elem (getD xs k 0) (take k xs)) (ne-eqb (getD xs k 0) x (λ z. omega (arith, ascends-at (suc x) n xs k (h .2) (omega arith) .0))) (ascends-new (suc x) n xs k (h .2) (omega arith))
 
 -- no member yet
 pub gathers-none : Gathers (replicate 32 0) []
@@ -87,7 +61,7 @@ pub record Put (xs gs : List ℕ) (k t i : ℕ) : Type 0 where
 -- member k, which is t
 module _ (n : ℕ) (xs gs : List ℕ) (k t i : ℕ) (up : Ascends 0 n xs) (few : n ≤ 256) (h : k < length xs) (is : t ≡ getD xs k 0) (at : i ≡ t / 8) (was : Gathers gs (take k xs)) where
   member-group : i < 32
-  member-group = omega (arith, ascends-from 0 n xs k up h .1)
+  member-group = omega (arith, ascends-at 0 n xs k up h .1)
 
   more : take (k + 1) xs ≡ take k xs ++ t ∷ []
   more = rw is (take-more xs k 0 h)

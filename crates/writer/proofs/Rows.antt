@@ -14,7 +14,7 @@ use Rattle.layout.specs.Writing.{row-bytes, record-of}
 use Rattle.writer.specs.Rows.{support-bytes, replies}
 use Rattle.writer.specs.Sets.{Gathers, packed}
 use Rattle.writer.specs.Written.{Puts}
-use Rattle.writer.proofs.Joins.{joined-yes, joined-no, length-yes, length-mono, length-small}
+use Rattle.layout.proofs.Joined.{joined-yes, joined-no, length-joined-yes, length-joined-mono, length-joined-small}
 use Rattle.writer.proofs.Sets.{packed-is, set-small}
 use Rattle.writer.proofs.Written.{puts-none, puts-one, puts-same, puts-two, puts-more}
 
@@ -41,11 +41,11 @@ support-small g s a b = set-small (g .support s a b)
 
 pub replies-small : (g : Game) (s a : ℕ) → length (replies g s a) ≤ 288
 unfolding replies
-replies-small g s a = length-small (support-bytes g s a) (bit (g .choices Two s)) 36 8 (support-small g s a)
+replies-small g s a = length-joined-small (support-bytes g s a) (bit (g .choices Two s)) 36 8 (support-small g s a)
 
 pub row-small : (g : Game) (s : ℕ) → length (row-bytes g s) ≤ 2306
 row-small g s =
-    rw row-is (omega (arith, length-small (replies g s) (bit (g .choices One s)) 288 8 (replies-small g s)))
+    rw row-is (omega (arith, length-joined-small (replies g s) (bit (g .choices One s)) 288 8 (replies-small g s)))
 
 -- pieces that are joined over the numbers that pass a test
 module _ (f : ℕ → List ℕ) (q : ℕ → Bool) where
@@ -55,7 +55,7 @@ module _ (f : ℕ → List ℕ) (q : ℕ → Bool) where
   -- pieces below m that have room from a place on, and those below n written
   module _ {old : List ℕ} {from : ℕ} {new : List ℕ} {to : ℕ} (m n : ℕ) (room : from + length (joined f (below q m)) ≤ length old) (was : Puts old from (joined f (below q n)) new to) where
     pub piece-fits : n < m → q n ≡ true → to + length (f n) ≤ length old
-    piece-fits h e = omega (arith, length-mono f q (n + 1) m (omega arith), length-yes f q n e)
+    piece-fits h e = omega (arith, length-joined-mono f q (n + 1) m (omega arith), length-joined-yes f q n e)
 
     pub piece-put : {newer : List ℕ} {end : ℕ} → n < m → q n ≡ true → Puts new to (f n) newer end → Puts old from (joined f (below q (n + 1))) newer end
     piece-put h e more = puts-same (puts-more was more (omega (arith, piece-fits h e))) (joined-yes f q n e) refl refl

@@ -5,7 +5,7 @@ use native.Mathlib.Omega.{arith}
 use lib.ListN.{length}
 use Rattle.layout.specs.Writing.{row-bytes, record-of}
 use Rattle.writer.specs.Written.{Puts}
-use Rattle.writer.proofs.Joins.{joined-none}
+use Rattle.layout.proofs.Joined.{joined-none}
 use Rattle.writer.proofs.Rows.{record-is, piece-fits, piece-put, record-room, record-put}
 use Rattle.writer.proofs.Written.{puts-none, written-first}
 use Rattle.writer.proofs.put_record.Needs as need

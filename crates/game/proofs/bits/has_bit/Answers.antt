@@ -1,8 +1,7 @@
-use mathlib.Core.Path.{_≡_, refl, sym, _∙_}
+use mathlib.Core.Path.{sym, _∙_}
 use Prim.Native.Nat.{_^_, _<_}
 use native.Mathlib.Omega.{arith}
 use borrow.Author.Tests.{le-ltb}
-use Rattle.game.specs.Below.{bit}
 use Rattle.game.proofs.Below.{bit-past}
 use Rattle.game.proofs.bits.has_bit.Needs as need
 

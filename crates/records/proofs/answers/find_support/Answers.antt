@@ -8,7 +8,7 @@ use Rattle.std.proofs.shelf.Tests.{and-from, and-left, and-right, cond-true, co
 use Rattle.game.specs.Below.{rank, bit}
 use Rattle.game.specs.declared.player.Player.the-variants.{One, Two}
 use Rattle.layout.specs.Reading.{moves-in, moves-at, support-index, support-place, support-at, set-at, set-end}
-use Rattle.layout.proofs.Members.{bit-in-byte}
+use Rattle.game.proofs.Below.{bit-in-byte}
 use Rattle.layout.proofs.Ready.{states-few, moves-inside, support-room, support-noted, support-begins, support-ends}
 use Rattle.records.proofs.answers.find_support.Needs as need
 use Rattle.records.proofs.answers.find_support.Needs.{then-not-has-bit·by·then-not-has-bit, then-not-has-bit·by·else-not-has-bit·then-not-has-bit-2}

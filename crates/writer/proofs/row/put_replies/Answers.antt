@@ -5,7 +5,7 @@ use lib.ListN.{length}
 use Rattle.game.specs.Below.{bit}
 use Rattle.game.specs.declared.player.Player.the-variants.{Two}
 use Rattle.writer.specs.Rows.{support-bytes, replies}
-use Rattle.writer.proofs.Joins.{joined-none}
+use Rattle.layout.proofs.Joined.{joined-none}
 use Rattle.writer.proofs.Rows.{support-is, move-test, piece-fits, piece-put, no-piece}
 use Rattle.writer.proofs.Written.{puts-none, puts-same}
 use Rattle.writer.proofs.row.put_replies.Needs as need

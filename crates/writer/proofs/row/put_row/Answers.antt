@@ -7,7 +7,7 @@ use Rattle.std.proofs.shelf.Lists.{length-set}
 use Rattle.game.specs.Below.{bit}
 use Rattle.game.specs.declared.player.Player.the-variants.{One}
 use Rattle.writer.specs.Rows.{replies}
-use Rattle.writer.proofs.Joins.{joined-none}
+use Rattle.layout.proofs.Joined.{joined-none}
 use Rattle.writer.proofs.Rows.{row-is, move-test, piece-fits, piece-put, no-piece, row-room, row-put}
 use Rattle.writer.proofs.Written.{puts-none, puts-same}
 use Rattle.writer.proofs.row.put_row.Needs as need

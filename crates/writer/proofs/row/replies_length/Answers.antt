@@ -4,7 +4,7 @@ use lib.ListN.{length}
 use Rattle.game.specs.Below.{below, bit}
 use Rattle.game.specs.declared.player.Player.the-variants.{Two}
 use Rattle.writer.specs.Rows.{support-bytes, replies}
-use Rattle.writer.proofs.Joins.{length-small, length-yes, length-no}
+use Rattle.layout.proofs.Joined.{length-joined-small, length-joined-yes, length-joined-no}
 use Rattle.writer.proofs.Rows.{support-is, move-test, support-small}
 use Rattle.writer.proofs.row.replies_length.Needs as need
 use Rattle.writer.proofs.row.replies_length.Needs.{then-has-bit, else-has-bit}
@@ -19,7 +19,7 @@ add-length g c =
     let s = c .args .state in
     let a = c .args .a in
     let b = c .loop-b .b in
-    omega (arith, length-small (support-bytes game s a) (bit (game .choices Two s)) 36 b (support-small game s a), support-small game s a b, ap length (support-is game s a b (c .gather .result) (c .gather .ensures)))
+    omega (arith, length-joined-small (support-bytes game s a) (bit (game .choices Two s)) 36 b (support-small game s a), support-small game s a b, ap length (support-is game s a b (c .gather .result) (c .gather .ensures)))
 
 pub loop-b-again : need.loop-b-again
 loop-b-again g c =
@@ -30,8 +30,8 @@ loop-b-again g c =
     let f = support-bytes game s a in
     let q = bit (game .choices Two s) in
     elim (c .if-has-bit .came) [
-      | then-has-bit w ↦ omega (arith, w .length-is, length-yes f q b (move-test b (c .moves-moves .ensures) (c .has-bit .ensures) (w .if-has-bit .taken)), ap length (support-is game s a b (w .gather .result) (w .gather .ensures)), w .set-length-length .ensures)
-      | else-has-bit w ↦ omega (arith, w .length-is, length-no f q b (move-test b (c .moves-moves .ensures) (c .has-bit .ensures) (w .if-has-bit .left)))
+      | then-has-bit w ↦ omega (arith, w .length-is, length-joined-yes f q b (move-test b (c .moves-moves .ensures) (c .has-bit .ensures) (w .if-has-bit .taken)), ap length (support-is game s a b (w .gather .result) (w .gather .ensures)), w .set-length-length .ensures)
+      | else-has-bit w ↦ omega (arith, w .length-is, length-joined-no f q b (move-test b (c .moves-moves .ensures) (c .has-bit .ensures) (w .if-has-bit .left)))
     ]
 
 pub returns : need.returns

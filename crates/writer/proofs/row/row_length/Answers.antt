@@ -4,7 +4,7 @@ use lib.ListN.{length}
 use Rattle.game.specs.Below.{below, bit}
 use Rattle.game.specs.declared.player.Player.the-variants.{One}
 use Rattle.writer.specs.Rows.{replies}
-use Rattle.writer.proofs.Joins.{length-small, length-yes, length-no}
+use Rattle.layout.proofs.Joined.{length-joined-small, length-joined-yes, length-joined-no}
 use Rattle.writer.proofs.Rows.{row-is, move-test, replies-small}
 use Rattle.writer.proofs.row.row_length.Needs as need
 use Rattle.writer.proofs.row.row_length.Needs.{then-has-bit, else-has-bit}
@@ -18,7 +18,7 @@ add-length g c =
     let game = g .S·Source .game (c .args .source .now) in
     let s = c .args .state in
     let a = c .loop-a .a in
-    omega (arith, length-small (replies game s) (bit (game .choices One s)) 288 a (replies-small game s), replies-small game s a)
+    omega (arith, length-joined-small (replies game s) (bit (game .choices One s)) 288 a (replies-small game s), replies-small game s a)
 
 pub loop-a-again : need.loop-a-again
 loop-a-again g c =
@@ -28,8 +28,8 @@ loop-a-again g c =
     let f = replies game s in
     let q = bit (game .choices One s) in
     elim (c .if-has-bit .came) [
-      | then-has-bit w ↦ omega (arith, w .length-is, length-yes f q a (move-test a (c .moves-moves .ensures) (c .has-bit .ensures) (w .if-has-bit .taken)), w .replies-length-length .ensures)
-      | else-has-bit w ↦ omega (arith, w .length-is, length-no f q a (move-test a (c .moves-moves .ensures) (c .has-bit .ensures) (w .if-has-bit .left)))
+      | then-has-bit w ↦ omega (arith, w .length-is, length-joined-yes f q a (move-test a (c .moves-moves .ensures) (c .has-bit .ensures) (w .if-has-bit .taken)), w .replies-length-length .ensures)
+      | else-has-bit w ↦ omega (arith, w .length-is, length-joined-no f q a (move-test a (c .moves-moves .ensures) (c .has-bit .ensures) (w .if-has-bit .left)))
     ]
 
 pub returns : need.returns

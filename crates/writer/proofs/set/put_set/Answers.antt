@@ -30,13 +30,11 @@ loop-group-holds c = rw groups-none (puts-none (c .loop-j .buffer) (c .args .at 
 
 pub index-buffer-end : need.index-buffer-end
 index-buffer-end c =
-    let gs = c .args .groups .now in
-    omega (arith, length-packed gs, groups-room gs (c .loop-group .group-index) (c .loop-group-test .taken) (c .if-group-gt0 .taken))
+    omega (arith, groups-room (c .args .groups .now) (c .loop-group .group-index) (c .loop-group-test .taken) (c .if-group-gt0 .taken))
 
 pub add-end-then-group-gt0 : need.add-end-then-group-gt0
 add-end-then-group-gt0 c =
-    let gs = c .args .groups .now in
-    omega (arith, length-packed gs, groups-room gs (c .loop-group .group-index) (c .loop-group-test .taken) (c .if-group-gt0 .taken))
+    omega (arith, groups-room (c .args .groups .now) (c .loop-group .group-index) (c .loop-group-test .taken) (c .if-group-gt0 .taken))
 
 pub loop-group-again : need.loop-group-again
 loop-group-again c =
@@ -45,7 +43,7 @@ loop-group-again c =
     elim (c .if-group-gt0 .came) [
       | then-group-gt0 w ↦
           let room = groups-room gs n (c .loop-group-test .taken) (w .if-group-gt0 .taken) in
-          puts-same (puts-one _ (c .loop-group .inv) (omega (arith, length-packed gs, room))) (groups-yes gs n (w .if-group-gt0 .taken)) (w .buffer-is) (w .end-is)
+          puts-same (puts-one _ (c .loop-group .inv) (omega arith)) (groups-yes gs n (w .if-group-gt0 .taken)) (w .buffer-is) (w .end-is)
       | else-group-gt0 w ↦ puts-same (c .loop-group .inv) (groups-no gs n (w .if-group-gt0 .left)) (w .buffer-is) (w .end-is)
     ]
 

@@ -2,7 +2,7 @@ use mathlib.Core.Path.{_≡_, ap}
 use native.Mathlib.Omega.{arith}
 use lib.ListN.{length}
 use Rattle.writer.specs.Sets.{groups-in}
-use Rattle.writer.proofs.Sets.{groups-no, groups-le, length-yes, length-packed}
+use Rattle.writer.proofs.Sets.{groups-no, groups-le, length-groups-yes, length-packed}
 use Rattle.writer.proofs.set.set_length.Needs as need
 use Rattle.writer.proofs.set.set_length.Needs.{then-group-gt0, else-group-gt0}
 
@@ -17,7 +17,7 @@ loop-group-again c =
     let gs = c .args .groups .now in
     let n = c .loop-group .group-index in
     elim (c .if-group-gt0 .came) [
-      | then-group-gt0 w ↦ omega (arith, w .length-is, length-yes gs n (w .if-group-gt0 .taken))
+      | then-group-gt0 w ↦ omega (arith, w .length-is, length-groups-yes gs n (w .if-group-gt0 .taken))
       | else-group-gt0 w ↦ omega (arith, w .length-is, ap length (groups-no gs n (w .if-group-gt0 .left)))
     ]
 
