@@ -1,5 +1,5 @@
 -- The numbers below a bound that pass a test, and the binary digits of a number.
-use mathlib.Core.Bool.{Bool, cond}
+use mathlib.Core.Bool.{Bool, false, cond, _||_}
 use mathlib.Core.List.{List, [], _∷_, _++_}
 use Prim.Native.Nat.{ℕ, zero, suc, _/_, _%_, _^_}
 use lib.Dec.{eqb}
@@ -17,3 +17,8 @@ rank p n = length (below p n)
 -- whether bit i, of weight 2 to the power i, stands in c
 abbrev pub bit : ℕ → ℕ → Bool
 bit c i = eqb (c / 2 ^ i % 2) 1
+
+-- whether a list has a number
+unfoldable pub elem : ℕ → List ℕ → Bool
+elem x [] = false
+elem x (y ∷ ys) = eqb x y || elem x ys

@@ -14,10 +14,10 @@ use Rattle.std.specs.Holes.{between}
 use Rattle.std.proofs.shelf.Lists.{drop-drop, drop-more}
 use Rattle.std.proofs.shelf.Edits.{between-none, between-more}
 use Rattle.std.proofs.shelf.Tests.{cases-bool, lt-ltb, and-parts, and-from}
-use Rattle.game.specs.Below.{below, bit}
+use Rattle.game.specs.Below.{below, bit, elem}
 use Rattle.game.specs.Games.{Ascends}
 use Rattle.game.proofs.Below.{below-zero, below-same, map-yes, map-no, below-at, rank-lt, ascends-within}
-use Rattle.layout.specs.Writing.{elem, group, filled, map-byte, set-bytes}
+use Rattle.layout.specs.Writing.{group, filled, map-byte, set-bytes}
 use Rattle.layout.specs.Reading.{at, map-bit, group-place, set-end, in-set, set-at, GoodSet, GoodSupport, Bytes}
 use Rattle.layout.proofs.Bits.{weigh-bit, weigh-same, weigh-none, weigh-found}
 use Rattle.layout.proofs.Members.{in-group}

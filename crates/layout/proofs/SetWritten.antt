@@ -7,10 +7,10 @@ use Prim.Native.Nat.{ℕ, _+_, _*_, _/_, _%_, _≤_, _<_}
 use native.Mathlib.Omega.{arith}
 use lib.ListN.{length}
 use Rattle.std.proofs.shelf.Tests.{cases-bool, ltb-true, ltb-false}
-use Rattle.game.specs.Below.{rank, bit}
+use Rattle.game.specs.Below.{rank, bit, elem}
 use Rattle.game.specs.Games.{Ascends}
 use Rattle.game.proofs.Below.{below-same, rank-same, rank-lt, ascends-more, bit-zero}
-use Rattle.layout.specs.Writing.{elem, group, filled, set-bytes}
+use Rattle.layout.specs.Writing.{group, filled, set-bytes}
 use Rattle.layout.specs.Reading.{at, map-bit, group-place, set-end, in-set, set-at, GoodGroup, GoodSet, GoodSupport}
 use Rattle.layout.proofs.Sets.{elem-within, below-elem, group-bit, state-bit, map-byte-bit, some-group, length-set-bytes, set-bytes-map, set-bytes-group}
 use Rattle.layout.proofs.Stands.{Stands, stands-at, stands-fits}

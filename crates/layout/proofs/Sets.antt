@@ -9,10 +9,10 @@ use lib.Dec.{eqb}
 use lib.ListN.{length, getD, length-map}
 use Rattle.std.proofs.shelf.Lists.{getD-append-add, getD-map}
 use Rattle.std.proofs.shelf.Tests.{false≢true, both-ways, cases-bool, cases-lt, lt-ltb, eqb-true, eq-eqb, ne-eqb, or-from, or-left, or-right, or-cases}
-use Rattle.game.specs.Below.{below, rank, bit}
+use Rattle.game.specs.Below.{below, rank, bit, elem}
 use Rattle.game.specs.Games.{Ascends}
 use Rattle.game.proofs.Below.{below-none, below-at, rank-lt, getD-below, ascends-below, ascends-at, bit-some}
-use Rattle.layout.specs.Writing.{elem, group, filled, map-byte, set-bytes}
+use Rattle.layout.specs.Writing.{group, filled, map-byte, set-bytes}
 use Rattle.layout.proofs.Bits.{bit-weigh}
 
 -- what stands in a list is a member, and a member stands somewhere

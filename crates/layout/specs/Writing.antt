@@ -1,12 +1,12 @@
 -- The bytes of a set of states, of a row and of a record.
-use mathlib.Core.Bool.{Bool, true, false, cond, _||_}
+use mathlib.Core.Bool.{Bool, true, cond}
 use mathlib.Core.List.{List, [], _∷_, map}
 use mathlib.Core.Path.{_≡_}
 use Prim.Native.Nat.{ℕ, zero, suc, _+_, _-_, _*_, _^_, _≤_}
-use lib.Dec.{eqb, ltb}
+use lib.Dec.{ltb}
 use lib.ListN.{length}
 use Rattle.std.specs.Joined.{joined}
-use Rattle.game.specs.Below.{below, bit}
+use Rattle.game.specs.Below.{below, bit, elem}
 use Rattle.game.specs.Games.{Game, WellFormed}
 use Rattle.game.specs.declared.player.Player.the-variants.{One, Two}
 
@@ -18,10 +18,6 @@ weigh p (suc k) = weigh p k + cond (p k) (2 ^ k) 0
 -- the byte whose standing bits are those that pass the test
 abbrev pub byte : (ℕ → Bool) → ℕ
 byte p = weigh p 8
-
-unfoldable pub elem : ℕ → List ℕ → Bool
-elem x [] = false
-elem x (y ∷ ys) = eqb x y || elem x ys
 
 -- the byte of group g: bit i stands for state 8 g + i
 unfoldable pub group : List ℕ → ℕ → ℕ

@@ -12,7 +12,8 @@ use Rattle.std.proofs.shelf.Bits.{one-shl}
 use Rattle.std.proofs.shelf.Tests.{ne-eqb, or-from, cases-eq}
 use Rattle.game.specs.Games.{Ascends}
 use Rattle.game.proofs.Below.{ascends-at}
-use Rattle.layout.specs.Writing.{elem, group}
+use Rattle.game.specs.Below.{elem}
+use Rattle.layout.specs.Writing.{group}
 use Rattle.layout.proofs.Bits.{weigh-lt, weigh-none, weigh-same, weigh-add}
 use Rattle.layout.proofs.Sets.{elem-at}
 use Rattle.writer.specs.Sets.{Gathers}

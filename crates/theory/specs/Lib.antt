@@ -1,0 +1,4 @@
+pub mod Positions
+pub mod Layers
+pub mod Verdicts
+pub mod Strategies
