@@ -1,7 +1,7 @@
--- The numbers below a bound that pass a test, and the binary digits of a number.
+-- The numbers below a bound that pass a test, the binary digits of a number, and membership in a list.
 use mathlib.Core.Bool.{Bool, false, cond, _||_}
 use mathlib.Core.List.{List, [], _∷_, _++_}
-use Prim.Native.Nat.{ℕ, zero, suc, _/_, _%_, _^_}
+use Prim.Native.Nat.{ℕ, zero, suc, _+_, _/_, _%_, _^_}
 use lib.Dec.{eqb}
 use lib.ListN.{length}
 
@@ -17,6 +17,15 @@ rank p n = length (below p n)
 -- whether bit i, of weight 2 to the power i, stands in c
 abbrev pub bit : ℕ → ℕ → Bool
 bit c i = eqb (c / 2 ^ i % 2) 1
+
+-- the sum of the weights of the bits below k that pass the test
+unfoldable pub weigh : (ℕ → Bool) → ℕ → ℕ
+weigh p zero = 0
+weigh p (suc k) = weigh p k + cond (p k) (2 ^ k) 0
+
+-- the byte whose standing bits are those that pass the test
+abbrev pub byte : (ℕ → Bool) → ℕ
+byte p = weigh p 8
 
 -- whether a list has a number
 unfoldable pub elem : ℕ → List ℕ → Bool

@@ -1,4 +1,3 @@
-pub mod Bits
 pub mod Exclusive
 pub mod Joined
 pub mod Members

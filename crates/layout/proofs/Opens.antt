@@ -6,11 +6,11 @@ use Prim.Native.Nat.{ℕ, zero, suc, _<_}
 use native.Mathlib.Omega.{arith}
 use lib.Dec.{eqb, eqb·suc-zero}
 use Rattle.std.proofs.shelf.Tests.{both-ways, ne-eqb, cond-false, cond-both}
-use Rattle.game.specs.Below.{below, bit, elem}
+use Rattle.game.specs.Below.{below, bit, elem, weigh}
 use Rattle.game.proofs.Below.{bit-past, bit-zero}
 use Rattle.game.specs.Games.{Game, Ascends, Chosen, WellFormed, Same}
 use Rattle.game.specs.Refusals.{Told}
-use Rattle.layout.specs.Writing.{weigh, group, map-byte, set-bytes, row-bytes, record-of, Records}
+use Rattle.layout.specs.Writing.{group, map-byte, set-bytes, row-bytes, record-of, Records}
 use Rattle.layout.specs.Reading.{shown, Bytes, GoodRecord}
 use Rattle.layout.specs.Faults.{BadRecord}
 use Rattle.layout.specs.Placed.{Ready}

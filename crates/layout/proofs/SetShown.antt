@@ -19,7 +19,7 @@ use Rattle.game.specs.Games.{Ascends}
 use Rattle.game.proofs.Below.{below-zero, below-same, map-yes, map-no, below-at, rank-lt, ascends-within}
 use Rattle.layout.specs.Writing.{group, filled, map-byte, set-bytes}
 use Rattle.layout.specs.Reading.{at, map-bit, group-place, set-end, in-set, set-at, GoodSet, GoodSupport, Bytes}
-use Rattle.layout.proofs.Bits.{weigh-bit, weigh-same, weigh-none, weigh-found}
+use Rattle.game.proofs.Digits.{weigh-bit, weigh-same, weigh-none, weigh-found}
 use Rattle.layout.proofs.Members.{in-group}
 use Rattle.layout.proofs.Places.{at-small, group-place-first, group-place-yes, group-place-no}
 use Rattle.layout.proofs.Sets.{elem-below}

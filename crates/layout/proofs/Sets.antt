@@ -13,7 +13,7 @@ use Rattle.game.specs.Below.{below, rank, bit, elem}
 use Rattle.game.specs.Games.{Ascends}
 use Rattle.game.proofs.Below.{below-none, below-at, rank-lt, getD-below, ascends-below, ascends-at, bit-some}
 use Rattle.layout.specs.Writing.{group, filled, map-byte, set-bytes}
-use Rattle.layout.proofs.Bits.{bit-weigh}
+use Rattle.game.proofs.Digits.{bit-weigh}
 
 -- what stands in a list is a member, and a member stands somewhere
 pub elem-at : (xs : List ℕ) (k : ℕ) → k < length xs → elem (getD xs k 0) xs ≡ true

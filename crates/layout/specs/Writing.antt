@@ -1,23 +1,14 @@
 -- The bytes of a set of states, of a row and of a record.
-use mathlib.Core.Bool.{Bool, true, cond}
-use mathlib.Core.List.{List, [], _∷_, map}
+use mathlib.Core.Bool.{Bool, true}
+use mathlib.Core.List.{List, _∷_, map}
 use mathlib.Core.Path.{_≡_}
-use Prim.Native.Nat.{ℕ, zero, suc, _+_, _-_, _*_, _^_, _≤_}
+use Prim.Native.Nat.{ℕ, _+_, _-_, _*_, _≤_}
 use lib.Dec.{ltb}
 use lib.ListN.{length}
 use Rattle.std.specs.Joined.{joined}
-use Rattle.game.specs.Below.{below, bit, elem}
+use Rattle.game.specs.Below.{below, bit, byte, elem}
 use Rattle.game.specs.Games.{Game, WellFormed}
 use Rattle.game.specs.declared.player.Player.the-variants.{One, Two}
-
--- the sum of the weights of the bits below k that pass the test
-unfoldable pub weigh : (ℕ → Bool) → ℕ → ℕ
-weigh p zero = 0
-weigh p (suc k) = weigh p k + cond (p k) (2 ^ k) 0
-
--- the byte whose standing bits are those that pass the test
-abbrev pub byte : (ℕ → Bool) → ℕ
-byte p = weigh p 8
 
 -- the byte of group g: bit i stands for state 8 g + i
 unfoldable pub group : List ℕ → ℕ → ℕ

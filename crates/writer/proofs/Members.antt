@@ -14,7 +14,7 @@ use Rattle.game.specs.Games.{Ascends}
 use Rattle.game.proofs.Below.{ascends-at}
 use Rattle.game.specs.Below.{elem}
 use Rattle.layout.specs.Writing.{group}
-use Rattle.layout.proofs.Bits.{weigh-lt, weigh-none, weigh-same, weigh-add}
+use Rattle.game.proofs.Digits.{weigh-lt, weigh-none, weigh-same, weigh-add}
 use Rattle.layout.proofs.Sets.{elem-at}
 use Rattle.writer.specs.Sets.{Gathers}
 

@@ -10,7 +10,7 @@ use Rattle.std.proofs.shelf.Tests.{lt-ltb, le-ltb}
 use Rattle.game.specs.Below.{below}
 use Rattle.game.proofs.Below.{below-same, map-yes, map-no, map-same, rank-le, rank-lt}
 use Rattle.layout.specs.Writing.{group, filled, map-byte, set-bytes}
-use Rattle.layout.proofs.Bits.{weigh-same}
+use Rattle.game.proofs.Digits.{weigh-same}
 use Rattle.layout.proofs.Sets.{getD-four, length-set-bytes}
 use Rattle.writer.specs.Sets.{Gathers, full, in-map, map-of, groups-in, packed}
 

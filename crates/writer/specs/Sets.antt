@@ -5,8 +5,8 @@ use mathlib.Core.Path.{_≡_}
 use Prim.Native.Nat.{ℕ, _+_, _*_, _<_}
 use lib.Dec.{ltb}
 use lib.ListN.{length, getD}
-use Rattle.game.specs.Below.{below}
-use Rattle.layout.specs.Writing.{byte, group}
+use Rattle.game.specs.Below.{below, byte}
+use Rattle.layout.specs.Writing.{group}
 
 -- the bytes of the 32 groups of a list of states
 abbrev pub Gathers : List ℕ → List ℕ → Type 0

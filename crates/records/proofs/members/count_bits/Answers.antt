@@ -3,7 +3,7 @@ use Prim.Native.Nat.{_^_, _<_}
 use native.Mathlib.Omega.{arith}
 use lib.Count.{ones-le}
 use Rattle.layout.specs.Reading.{moves-in}
-use Rattle.layout.proofs.Bits.{ones-rank}
+use Rattle.game.proofs.Digits.{ones-rank}
 use Rattle.records.proofs.members.count_bits.Needs as need
 
 pub cast-result : need.cast-result

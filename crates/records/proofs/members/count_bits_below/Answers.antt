@@ -5,7 +5,7 @@ use lib.Count.{ones}
 use Rattle.std.proofs.shelf.Bits.{one-shl}
 use Rattle.game.specs.Below.{rank, bit}
 use Rattle.game.proofs.Below.{rank-le}
-use Rattle.layout.proofs.Bits.{ones-mod}
+use Rattle.game.proofs.Digits.{ones-mod}
 use Rattle.records.proofs.members.count_bits_below.Needs as need
 
 pub returns : need.returns

@@ -1,10 +1,10 @@
 use mathlib.Core.Path.{_≡_, refl, ap, _∙_}
 use Prim.Native.Nat.{_+_}
 use native.Mathlib.Omega.{arith}
+use Rattle.game.specs.Below.{weigh}
 use Rattle.std.proofs.shelf.Bits.{one-shl}
 use Rattle.std.proofs.shelf.Tests.{lt-ltb, le-ltb}
-use Rattle.layout.specs.Writing.{weigh}
-use Rattle.layout.proofs.Bits.{weigh-yes, weigh-no, weigh-byte}
+use Rattle.game.proofs.Digits.{weigh-yes, weigh-no, weigh-byte}
 use Rattle.writer.specs.Sets.{in-map, map-of}
 use Rattle.writer.proofs.set.map_byte.Needs as need
 use Rattle.writer.proofs.set.map_byte.Needs.{then-groups-j-gt0, else-groups-j-gt0}

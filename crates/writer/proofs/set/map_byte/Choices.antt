@@ -1,5 +1,5 @@
 use mathlib.Core.Path.{_≡_}
-use Rattle.layout.specs.Writing.{weigh}
+use Rattle.game.specs.Below.{weigh}
 use Rattle.writer.specs.Sets.{in-map}
 use Rattle.writer.proofs.set.map_byte.Given as given
 

@@ -10,9 +10,8 @@ use lib.Count.{ones, ones-cat}
 use lib.Dec.{eqb}
 use lib.Pow.{pow-pos, pow-add, pow-mono, high, mod-pow-add}
 use Rattle.std.proofs.shelf.Tests.{cases-bool, cases-lt, eq-eqb, eqb-true, eqb-false}
-use Rattle.game.specs.Below.{rank, bit}
+use Rattle.game.specs.Below.{rank, bit, weigh}
 use Rattle.game.proofs.Below.{rank-zero, rank-yes, rank-no, bit-past}
-use Rattle.layout.specs.Writing.{weigh}
 
 -- bits below k do not see what stands from k on
 bit-low : (h k c i : ℕ) → i < k → bit (h * 2 ^ k + c) i ≡ bit c i
