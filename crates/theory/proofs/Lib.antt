@@ -1,7 +1,11 @@
 pub mod Almost
+pub mod Benches
+pub mod Computed
 pub mod Finite
 pub mod Histories
+pub mod Known
 pub mod Layers
+pub mod OneAnswer
 pub mod Plays
 pub mod Rounds
 pub mod Sure

@@ -1,6 +1,10 @@
-pub mod Positions
+pub mod Benches
+pub mod Computed
+pub mod Known
+pub mod Laws
 pub mod Layers
-pub mod Verdicts
-pub mod Strategies
 pub mod Plays
+pub mod Positions
+pub mod Strategies
 pub mod Theorems
+pub mod Verdicts

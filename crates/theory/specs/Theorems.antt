@@ -1,13 +1,19 @@
 -- The theorems on verdicts and plays, each over every playable position.
 use mathlib.Core.Bool.{true}
 use mathlib.Core.List.{List}
-use mathlib.Core.Logic.{_⊎_}
+use mathlib.Core.Logic.{_↔_, _⊎_}
 use mathlib.Core.Path.{_≡_}
 use Prim.Native.Nat.{ℕ, suc, _≤_, _<_}
+use Rattle.std.specs.declared.option.Option.the-variants.{Some, None}
+use Rattle.game.specs.Below.{bit, elem}
+use Rattle.game.specs.Games.{Game, WellFormed}
 use Rattle.game.specs.declared.player.Player.the-variants.{One, Two}
 use Rattle.theory.specs.Positions.{Position, Playable, State, Keeps, Leads, Target}
-use Rattle.theory.specs.Verdicts.{Sure, SureRank, SureMove, OuterRounds, Almost, AlmostRank, AlmostMove, Reply}
+use Rattle.theory.specs.Verdicts.{Sure, SureRank, SureMove, Outer, OuterRounds, Almost, AlmostRank, AlmostMove, Reply}
 use Rattle.theory.specs.Strategies.{Strategy, Forces, ForcedIn, KeptInReach}
+use Rattle.theory.specs.Computed.{sure-list, sure-rank, sure-set, outer-list, rounds, almost-list, almost-rank, almost-set, replies}
+use Rattle.theory.specs.Benches.{Bench, Step, Ran, Call as BenchCall, Answer as BenchAnswer}
+use Rattle.theory.specs.Laws.{BothReply, BenchLaw, VerdictLaw}
 use Rattle.theory.specs.Plays.{Call, Answer, Play, Played, Guided, resting}
 
 -- a state has a rank, or is in no layer
@@ -64,3 +70,46 @@ AlmostMoveSome = (x : Position) → Playable x → (s : ℕ) → Almost x s → 
 -- A play begun at a state of rank r and played from the moves handed out has met the target once r rounds are settled.
 abbrev pub PlayArrives : Type 0
 PlayArrives = (x : Position) → Playable x → (r s : ℕ) → SureRank x r s → (calls : List Call) (answers : List Answer) (p : Play) (run : Played x s calls answers p) → Guided run → r ≤ resting p .rounds → resting p .met ≡ true
+
+-- The computed verdicts are the verdicts. First sure: the states in the layers, the ranks, and the moves handed out.
+abbrev pub SureComputed : Type 0
+SureComputed = (x : Position) → Playable x → (k s : ℕ) → (elem s (sure-list x k) ≡ true) ↔ Sure x k s
+
+abbrev pub SureRankComputed : Type 0
+SureRankComputed = (x : Position) → Playable x → (s : ℕ) → ((r : ℕ) → (sure-rank x s ≡ Some r) ↔ SureRank x r s) × ((sure-rank x s ≡ None) ↔ ((r : ℕ) → SureRank x r s → ⊥))
+
+abbrev pub SureMoveComputed : Type 0
+SureMoveComputed = (x : Position) → Playable x → (s a : ℕ) → (bit (sure-set x s) a ≡ true) ↔ SureMove x s a
+
+-- the sets of the outer rounds, and their number
+abbrev pub OuterComputed : Type 0
+OuterComputed = (x : Position) → Playable x → (j s : ℕ) → (elem s (outer-list x j) ≡ true) ↔ Outer x j s
+
+abbrev pub RoundsComputed : Type 0
+RoundsComputed = (x : Position) → Playable x → (j : ℕ) → (rounds x ≡ j) ↔ OuterRounds x j
+
+-- almost sure: the states, the ranks, and the moves handed out
+abbrev pub AlmostComputed : Type 0
+AlmostComputed = (x : Position) → Playable x → (s : ℕ) → (elem s (almost-list x) ≡ true) ↔ Almost x s
+
+abbrev pub AlmostRankComputed : Type 0
+AlmostRankComputed = (x : Position) → Playable x → (s : ℕ) → ((r : ℕ) → (almost-rank x s ≡ Some r) ↔ AlmostRank x r s) × ((almost-rank x s ≡ None) ↔ (Almost x s → ⊥))
+
+abbrev pub AlmostMoveComputed : Type 0
+AlmostMoveComputed = (x : Position) → Playable x → (s a : ℕ) → (bit (almost-set x s) a ≡ true) ↔ AlmostMove x s a
+
+-- the replies
+abbrev pub ReplyComputed : Type 0
+ReplyComputed = (x : Position) → Playable x → (s a b t : ℕ) → (replies x s a b t ≡ true) ↔ Reply x s a b t
+
+-- After every run of calls the bench is what the calls and answers say, and its verdicts at each state mean strategies and rules.
+abbrev pub RunsLaw : Type 0
+RunsLaw = (g : Game) → WellFormed g → (calls : List BenchCall) (answers : List BenchAnswer) (b : Bench) → Ran g calls answers b → BenchLaw g calls answers b × ((s : ℕ) → s < g .size → VerdictLaw g calls answers b s)
+
+-- after every run each call has an answer
+abbrev pub CallsAnswered : Type 0
+CallsAnswered = (g : Game) → WellFormed g → (calls : List BenchCall) (answers : List BenchAnswer) (b : Bench) → Ran g calls answers b → (call : BenchCall) → (answer : BenchAnswer) × ((c : Bench) × Step g b call answer c)
+
+-- and one answer only, but for the choice of a reply
+abbrev pub OneAnswer : Type 0
+OneAnswer = (g : Game) → WellFormed g → (calls : List BenchCall) (answers : List BenchAnswer) (b : Bench) → Ran g calls answers b → (call : BenchCall) (v w : BenchAnswer) (c d : Bench) → Step g b call v c → Step g b call w d → (v ≡ w) ⊎ BothReply v w

@@ -1,5 +1,6 @@
 // What a verdict means: definitions in specs/, and theorems about them in proofs/.
-ghost use Rattle.theory.specs.Theorems.{SureDecided, SureBound, SureMeans, NeverForced, SureMoveSome, SureMoveLower, ReplySome, RoundsEnd, AlmostDecided, AlmostBound, AlmostMeans, SureAlmost, AlmostMoveSome, PlayArrives};
+ghost use Rattle.theory.specs.Theorems.{SureDecided, SureBound, SureMeans, NeverForced, SureMoveSome, SureMoveLower, ReplySome, RoundsEnd, AlmostDecided, AlmostBound, AlmostMeans, SureAlmost, AlmostMoveSome, PlayArrives, SureComputed, SureRankComputed, SureMoveComputed, OuterComputed, RoundsComputed, AlmostComputed, AlmostRankComputed, AlmostMoveComputed, ReplyComputed, RunsLaw, CallsAnswered, OneAnswer};
+ghost use Rattle.theory.specs.Known.{Known};
 
 // The theorems on sure ranks. The call does nothing: its contract says them.
 pub fn sure_ranks_mean_strategies()
@@ -24,4 +25,24 @@ pub fn almost_sure_states_mean_rules()
 // The theorem on plays. The call does nothing: its contract says it.
 pub fn plays_arrive()
     ensures { λ _. ⌜ PlayArrives ⌝ }
+{}
+
+// The verdicts that compute are the verdicts. The call does nothing: its contract says it.
+pub fn computed_verdicts_are_the_verdicts()
+    ensures sure { λ _. ⌜ SureComputed ⌝ ∗ ⌜ SureRankComputed ⌝ ∗ ⌜ SureMoveComputed ⌝ }
+    ensures rounds { λ _. ⌜ OuterComputed ⌝ ∗ ⌜ RoundsComputed ⌝ }
+    ensures almost { λ _. ⌜ AlmostComputed ⌝ ∗ ⌜ AlmostRankComputed ⌝ ∗ ⌜ AlmostMoveComputed ⌝ }
+    ensures reply { λ _. ⌜ ReplyComputed ⌝ }
+{}
+
+// The verdicts of the known games. The call does nothing: its contract says them.
+pub fn known_games()
+    ensures { λ _. ⌜ Known ⌝ }
+{}
+
+// The theorems on runs of calls on a bench. The call does nothing: its contract says them.
+pub fn runs_of_calls_keep_their_word()
+    ensures law { λ _. ⌜ RunsLaw ⌝ }
+    ensures answered { λ _. ⌜ CallsAnswered ⌝ }
+    ensures once { λ _. ⌜ OneAnswer ⌝ }
 {}

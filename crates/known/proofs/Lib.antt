@@ -1,0 +1,2 @@
+pub mod OneMove
+pub mod OneState
