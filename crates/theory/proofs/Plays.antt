@@ -6,8 +6,9 @@ use mathlib.Core.Path.{_≡_, refl, sym, ap, subst, _∙_}
 use Prim.Native.Nat.{ℕ, zero, suc, _+_, _≤_, _<_}
 use native.Mathlib.Omega.{arith}
 use Rattle.std.proofs.shelf.Tests.{both-ways, cases-bool, or-left, or-right}
+use Rattle.std.specs.declared.option.Option.the-variants.{Some}
 use Rattle.game.specs.declared.player.Player.the-variants.{Two}
-use Rattle.theory.specs.Plays.{Rest, Play, rests, opened, Call, Answer, Step, commit-not-kept, commit-full, commits, settle-not-kept, settle-outside, settles, abandons, Played, begins, then, Follows, Guided, resting, begun, settled}
+use Rattle.theory.specs.Plays.{Begin, begin-taken, taken, Rest, Play, rests, opened, Call, Answer, Step, commit-not-kept, commit-full, commits, settle-not-kept, settle-outside, settles, abandons, Played, begins, then, Follows, Guided, resting, begun, settled}
 use Rattle.theory.specs.Positions.{Position, Playable, Keeps, Leads}
 use Rattle.theory.specs.Verdicts.{SureRank, SureMove}
 use Rattle.theory.proofs.Sure.{sure-move-lower}
@@ -36,8 +37,11 @@ module _ (x : Position) (playable : Playable x) (r : ℕ) where
   step-on (settles p a b t k l) f way = settled-on p a b t way k l f
   step-on (abandons p a) f way = way
 
+  begun-on : (s : ℕ) → SureRank x r s → (p : Rest) → Begin x true s taken (Some p) → OnTheWay p
+  begun-on s rank p (begin-taken l e) = (λ e. e, inr (r, omega arith, rank))
+
   played-on : (s : ℕ) → SureRank x r s → {calls : List Call} {answers : List Answer} {p : Play} (run : Played x s calls answers p) → Guided run → OnTheWay (resting p)
-  played-on s rank begins g = (λ e. e, inr (r, omega arith, rank))
+  played-on s rank (begins p b) g = begun-on s rank p b
   played-on s rank (then run step) g = step-on step (g .1) (played-on s rank run (g .0))
 
   -- once r rounds are settled the target was met

@@ -3,9 +3,11 @@ use mathlib.Core.Bool.{Bool, true, false, _||_}
 use mathlib.Core.List.{List, [], _∷_}
 use mathlib.Core.Path.{_≡_}
 use Prim.Native.Nat.{ℕ, _+_, _≤_, _<_}
+use Rattle.std.specs.declared.option.Option.{Option}
+use Rattle.std.specs.declared.option.Option.the-variants.{Some, None}
 use Rattle.game.specs.Refusals.{Told, bare, with-value}
 use Rattle.game.specs.declared.player.Player.the-variants.{One, Two}
-use Rattle.theory.specs.Positions.{Position, Keeps, Leads}
+use Rattle.theory.specs.Positions.{Position, State, Keeps, Leads}
 use Rattle.theory.specs.Verdicts.{SureMove}
 
 -- a play at rest: its state, its settled rounds, and whether the target was met
@@ -32,6 +34,12 @@ pub data Answer : Type 0 where
 abbrev pub begun : Position → ℕ → Rest
 begun x s = record { state = s; rounds = 0; met = x .target s }
 
+-- What begin answers at s, on a bench that is solved or not, and the play that it gives.
+pub data Begin (x : Position) (solved : Bool) (s : ℕ) : Answer → Option Rest → Type 0 where
+  begin-no-state : x .game .size ≤ s → Begin x solved s (refused (with-value 1 s)) None
+  begin-unsolved : State x s → solved ≡ false → Begin x solved s (refused (bare 5)) None
+  begin-taken : State x s → solved ≡ true → Begin x solved s taken (Some (begun x s))
+
 -- the play after a round that was settled on t
 abbrev pub settled : Position → Rest → ℕ → Rest
 settled x p t = record { state = t; rounds = p .rounds + 1; met = p .met || x .target t }
@@ -48,7 +56,7 @@ pub data Step (x : Position) : Play → Call → Answer → Play → Type 0 wher
 
 -- the calls of a play that was begun at s, the latest first, each with its answer
 pub data Played (x : Position) (s : ℕ) : List Call → List Answer → Play → Type 0 where
-  begins : Played x s [] [] (rests (begun x s))
+  begins : (p : Rest) → Begin x true s taken (Some p) → Played x s [] [] (rests p)
   then : {calls : List Call} {answers : List Answer} {p q : Play} {call : Call} {answer : Answer} → Played x s calls answers p → Step x p call answer q → Played x s (call ∷ calls) (answer ∷ answers) q
 
 -- each round that was settled before the target was met used a move handed out at its state in mode sure
@@ -62,7 +70,7 @@ Follows {x} (settles p a b t k l) = p .met ≡ false → SureMove x (p .state) a
 Follows (abandons p a) = Unit {0}
 
 abbrev pub Guided : {x : Position} {s : ℕ} {calls : List Call} {answers : List Answer} {p : Play} → Played x s calls answers p → Type 0
-Guided begins = Unit {0}
+Guided (begins p b) = Unit {0}
 Guided (then run step) = Guided run × Follows step
 
 -- the play at rest, or as it was at rest before the open round
