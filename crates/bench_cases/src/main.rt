@@ -1,4 +1,6 @@
 // Known cases of the bench and of plays. Each prints a line or a few; the file `stdout` has what is expected.
+#![tactic(auto)]
+
 use std::io;
 
 mod calls;

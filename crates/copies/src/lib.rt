@@ -1,4 +1,6 @@
 // The two ways round: a record that is opened and written again, and a game that is written and opened again.
+#![tactic(auto)]
+
 ghost use Rattle.std.specs.Prelude.{◌≡◌, ℕ, ◌-◌, ◌≤◌, List, length, take, drop, MatchResult};
 ghost use Rattle.game.specs.Games.{Same};
 ghost use Rattle.game.specs.Refusals.{told};

@@ -1,6 +1,8 @@
 // How a bench and a play are used: a gate controller that hides, waits and goes home.
 // States: 0 hidden, 1 safe, 2 wet, 3 home. Hidden, the controller may wait (move 0) or run (move 1), and the surroundings may look away
 // (move 0) or look (move 1).
+#![tactic(auto)]
+
 use bench::bench::Bench;
 use bench::play::{OpenRound, Play};
 use game::mode::Mode;

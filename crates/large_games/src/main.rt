@@ -1,5 +1,7 @@
 // Builds large games in memory as records, opens and solves them, and prints a digest of the verdicts.
 // The arguments name the games to run, in order; without any, all of them are run.
+#![tactic(auto)]
+
 use games::Large;
 use report::print_game;
 use std::alloc::Global;

@@ -1,5 +1,7 @@
 // Lists of calls, each handed over at once: on game H, and on H under a monitor. Every call is printed with its answer; the file
 // `stdout` has what is expected.
+#![tactic(auto)]
+
 use crate::lists::{ListCase, run_list};
 use crate::show::Reason;
 use monitor::Monitored;

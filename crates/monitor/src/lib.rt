@@ -1,4 +1,6 @@
 // The game of a source under a monitor, a machine of a few states that follows the play.
+#![tactic(auto)]
+
 ghost use Rattle.std.specs.Prelude.{◌≡◌, ℕ, ◌+◌, ◌*◌, ◌<◌, ◌≤◌, length, MatchOption, MatchResult, OnOk, nat_le, slice_index};
 ghost use Rattle.game.specs.Games.{Same};
 ghost use Rattle.game.specs.Refusals.{told, with_value};

@@ -1,4 +1,6 @@
 // Known cases of reading, writing and monitoring. Each prints a line; the file `stdout` has what is expected.
+#![tactic(auto)]
+
 use std::io;
 
 mod ask;

@@ -1,4 +1,6 @@
 // Reads games and sets of states out of bytes.
+#![tactic(auto)]
+
 mod answers;
 mod members;
 mod opening;

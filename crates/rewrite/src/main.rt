@@ -1,4 +1,6 @@
 // Opens the record in the file `game`, writes its game again by the four questions alone, and says what came of it.
+#![tactic(auto)]
+
 use copies::{count_supports, rewrite};
 use game::refusal::Refusal;
 use game::source::Source;

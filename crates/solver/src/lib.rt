@@ -1,4 +1,6 @@
 // The entries of a bench, and how its verdicts are worked out.
+#![tactic(auto)]
+
 pub mod entries;
 mod levels;
 mod links;

@@ -1,4 +1,6 @@
 // What a verdict means: definitions in specs/, and theorems about them in proofs/.
+#![tactic(auto)]
+
 ghost use Rattle.theory.specs.Theorems.{SureDecided, SureBound, SureMeans, NeverForced, SureMoveSome, SureMoveLower, ReplySome, RoundsEnd, AlmostDecided, AlmostBound, AlmostMeans, SureAlmost, AlmostMoveSome, PlayArrives, SureComputed, SureRankComputed, SureMoveComputed, OuterComputed, RoundsComputed, AlmostComputed, AlmostRankComputed, AlmostMoveComputed, ReplyComputed, RunsLaw, CallsAnswered, OneAnswer};
 ghost use Rattle.theory.specs.Known.{Known};
 

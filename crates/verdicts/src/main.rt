@@ -1,4 +1,6 @@
 // Reads the game in the file `game` and the target in the file `target`, solves, and prints the verdicts on every state.
+#![tactic(auto)]
+
 use bench::bench::Bench;
 use game::mode::Mode;
 use game::refusal::Refusal;

@@ -1,4 +1,6 @@
 // Writes the table record of any source of a game into a buffer, by the four questions of the source alone.
+#![tactic(auto)]
+
 ghost use Rattle.std.specs.Prelude.{◌≡◌, ◌≤◌, ◌++◌, length, drop};
 ghost use Rattle.layout.specs.Writing.{record_of};
 ghost use Rattle.writer.specs.Outcomes.{Writes};

@@ -8,14 +8,14 @@ use Rattle.copies.proofs.count_supports.Goals as goal
 few : (a b : ℕ) → a < 256 → b < 256 → ones a * ones b ≤ 64
 few a b h l = mul-le (ones a) (ones b) 8 8 (ones-le 8 a h) (ones-le 8 b l)
 
-pub overflow-mul-count : goal.overflow-mul-count
-overflow-mul-count g c = record { fits = omega (arith, few c.moves-first.result c.moves-second.result (omega arith) (omega arith)) }
+pub overflow_mul-count : goal.overflow_mul-count
+overflow_mul-count g c = record { fits = omega (arith, few c.moves-first.result c.moves-second.result (omega arith) (omega arith)) }
 
-pub overflow-cast-count : goal.overflow-cast-count
-overflow-cast-count g c = record { fits = omega (arith, few c.moves-first.result c.moves-second.result (omega arith) (omega arith)) }
+pub overflow_cast-count : goal.overflow_cast-count
+overflow_cast-count g c = record { fits = omega (arith, few c.moves-first.result c.moves-second.result (omega arith) (omega arith)) }
 
-pub overflow-add-count : goal.overflow-add-count
-overflow-add-count g c = record { fits = omega (arith, c.loop-state.invariant.1, few c.moves-first.result c.moves-second.result (omega arith) (omega arith)) }
+pub overflow_add-count : goal.overflow_add-count
+overflow_add-count g c = record { fits = omega (arith, c.loop-state.invariant.1, few c.moves-first.result c.moves-second.result (omega arith) (omega arith)) }
 
 pub loop-state-preserved : goal.loop-state-preserved
 loop-state-preserved g c =

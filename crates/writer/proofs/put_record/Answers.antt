@@ -12,8 +12,8 @@ bounds-buffer-0 g c = omega (arith, ap length (record_is (g.S.Source.game c.args
 pub loop-state-init : goal.loop-state-init
 loop-state-init g c = rw joined_none (puts_none _ 1)
 
-pub put-row-end-requires : goal.put-row-end-requires
-put-row-end-requires g c =
+pub put_row-end-requires : goal.put_row-end-requires
+put_row-end-requires g c =
     let game = g.S.Source.game c.args.source.now in
     let room = record_room game c.args.buffer.now (c.states-states.result - 1) c.requires in
     omega (arith, piece_fits (row_bytes game) (λ _. true) game.size c.loop-state.state room c.loop-state.invariant (omega arith) refl)
@@ -22,7 +22,7 @@ pub loop-state-preserved : goal.loop-state-preserved
 loop-state-preserved g c =
     let game = g.S.Source.game c.args.source.now in
     let room = record_room game c.args.buffer.now (c.states-states.result - 1) c.requires in
-    piece_put (row_bytes game) (λ _. true) game.size c.loop-state.state room c.loop-state.invariant (omega arith) refl c.put-row-end.ensures
+    piece_put (row_bytes game) (λ _. true) game.size c.loop-state.state room c.loop-state.invariant (omega arith) refl c.put_row-end.ensures
 
 pub returns : goal.returns
 returns g c =

@@ -9,8 +9,8 @@ pub loop-state-init : goal.loop-state-init
 unfolding below
 loop-state-init g c = refl
 
-pub overflow-add-length : goal.overflow-add-length
-overflow-add-length g c =
+pub overflow_add-length : goal.overflow_add-length
+overflow_add-length g c =
     let game = g.S.Source.game c.args.source.now in
     let s = c.loop-state.state in
     omega (arith, length_joined_small (row_bytes game) (λ _. true) 2306 s (row_small game), row_small game s)

@@ -7,8 +7,8 @@ use Rattle.solver.specs.Entries.{position_of, verdict_in}
 use Rattle.bench.proofs.Questions.{rank_there, no_rank, HeldSure}
 use Rattle.bench.proofs.bench.find_reply.Goals as goal
 
-pub returns-then-is-none : goal.returns-then-is-none
-returns-then-is-none g c =
+pub returns-then-is_none : goal.returns-then-is_none
+returns-then-is_none g c =
     let x = position_of (g.S.Source.game c.args.source.now) c.args.entries.now.at in
     let s = c.args.state in
     let support = x.game.support s c.args.a c.loop-b.b in
@@ -16,14 +16,14 @@ returns-then-is-none g c =
     let kept : Keeps x Two s c.loop-b.b = cc in
     let member = place_elem support c.loop-k.k (omega arith) in
     let leads : Leads x s c.args.a c.loop-b.b t = cc in
-    let none = no_rank c.verdict.result.rank c.if-is-none.ensures in
+    let none = no_rank c.verdict.result.rank c.if-is_none.ensures in
     let out : (verdict_in c.args.entries.now.at Sure t).rank ≡ None = cc in
     (kept, leads, out)
 
 pub loop-k-preserved : goal.loop-k-preserved
 loop-k-preserved g c =
     let support = (g.S.Source.game c.args.source.now).support c.args.state c.args.a c.loop-b.b in
-    let (r, there) = rank_there c.verdict.result.rank c.if-is-none.ensures in
+    let (r, there) = rank_there c.verdict.result.rank c.if-is_none.ensures in
     let sure : (verdict_in c.args.entries.now.at Sure (get_or support c.loop-k.k 0)).rank ≡ Some r = cc in
     below_more (λ k. HeldSure c.args.entries.now.at (get_or support k 0)) c.loop-k.k c.loop-k.invariant (r, sure)
 

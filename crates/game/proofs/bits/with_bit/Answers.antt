@@ -4,15 +4,15 @@ use Rattle.game.specs.Below.{bit}
 use Rattle.game.proofs.Below.{bit_past}
 use Rattle.game.proofs.Digits.{shifted, bit_added}
 use Rattle.game.proofs.bits.with_bit.Goals as goal
-use Rattle.game.proofs.bits.with_bit.Goals.{else_i_lt8_via_then_i_lt8+else_not_has_bit, else_i_lt8_via_else_i_lt8}
+use Rattle.game.proofs.bits.with_bit.Goals.{else-i-lt8-via-then-i-lt8+else-not-has_bit, else-i-lt8-via-else-i-lt8}
 
-pub overflow-add-result : goal.overflow-add-result
-overflow-add-result c = record { fits = omega (arith, shifted c.args.i c.if-i-lt8.true, (bit_added c.args.byte c.args.i (omega arith) c.if-i-lt8.true (sym c.if-not-has-bit.ensures)).0) }
+pub overflow_add-result : goal.overflow_add-result
+overflow_add-result c = record { fits = omega (arith, shifted c.args.i c.if-i-lt8.true, (bit_added c.args.byte c.args.i (omega arith) c.if-i-lt8.true (sym c.if-not-has_bit.ensures)).0) }
 
-pub returns-then-not-has-bit : goal.returns-then-not-has-bit
-returns-then-not-has-bit c j =
+pub returns-then-not-has_bit : goal.returns-then-not-has_bit
+returns-then-not-has_bit c j =
     ap (λ w. bit (c.args.byte + w) j) (shifted c.args.i c.if-i-lt8.true)
-    ∙ (bit_added c.args.byte c.args.i (omega arith) c.if-i-lt8.true (sym c.if-not-has-bit.ensures)).1 j
+    ∙ (bit_added c.args.byte c.args.i (omega arith) c.if-i-lt8.true (sym c.if-not-has_bit.ensures)).1 j
     ∙ ap (λ v. cond (eqb j c.args.i) v (bit c.args.byte j)) (sym (lt-ltb c.args.i 8 c.if-i-lt8.true))
 
 -- a bit that is as it shall be
@@ -26,6 +26,6 @@ same_bit byte i j v e =
 pub returns-else-i-lt8 : goal.returns-else-i-lt8
 returns-else-i-lt8 c j =
     elim c.else-i-lt8.branch [
-      | else_i_lt8_via_then_i_lt8+else_not_has_bit w ↦ same_bit c.args.byte c.args.i j (ltb c.args.i 8) (sym w.if-not-has-bit.ensures ∙ sym (lt-ltb c.args.i 8 w.if-i-lt8.true))
-      | else_i_lt8_via_else_i_lt8 w ↦ same_bit c.args.byte c.args.i j (ltb c.args.i 8) (bit_past c.args.byte 8 c.args.i (omega arith) w.if-i-lt8.false ∙ sym (le-ltb c.args.i 8 w.if-i-lt8.false))
+      | else-i-lt8-via-then-i-lt8+else-not-has_bit w ↦ same_bit c.args.byte c.args.i j (ltb c.args.i 8) (sym w.if-not-has_bit.ensures ∙ sym (lt-ltb c.args.i 8 w.if-i-lt8.true))
+      | else-i-lt8-via-else-i-lt8 w ↦ same_bit c.args.byte c.args.i j (ltb c.args.i 8) (bit_past c.args.byte 8 c.args.i (omega arith) w.if-i-lt8.false ∙ sym (le-ltb c.args.i 8 w.if-i-lt8.false))
     ]

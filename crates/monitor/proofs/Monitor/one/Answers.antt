@@ -2,8 +2,8 @@ use Rattle.std.proofs.Common.{refl, arith, lit≤}
 use Rattle.monitor.proofs.Products.{zeros}
 use Rattle.monitor.proofs.Monitor.one.Goals as goal
 
-pub invariant-of-result : goal.invariant-of-result
-invariant-of-result c = (lit≤ tt, (lit≤ tt, ((λ k h. omega (arith, zeros 256 k)), tt)))
+pub invariant_of-result : goal.invariant_of-result
+invariant_of-result c = (lit≤ tt, (lit≤ tt, ((λ k h. omega (arith, zeros 256 k)), tt)))
 
 pub returns : goal.returns
 returns c = record { states = refl; table = zeros 256 }

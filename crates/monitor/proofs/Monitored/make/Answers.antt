@@ -4,15 +4,15 @@ use Rattle.monitor.specs.Valid.{entry_below}
 use Rattle.monitor.proofs.Products.{same_copy}
 use Rattle.monitor.proofs.Monitored.make.Goals as goal
 
-pub invariant-of-self : goal.invariant-of-self
-invariant-of-self g c =
-    let a = c.in-ok-judge.ensures in
+pub invariant_of-self : goal.invariant_of-self
+invariant_of-self g c =
+    let a = c.in_ok-judge.ensures in
     (a.some, (a.few, ((λ k _. omega (arith, c.copied.ensures k, entry_below c.args.m c.args.table.now a.some a.entries k)), tt)))
 
 pub returns : goal.returns
 returns g c =
     let base = g.S.Source.game c.args.self.now.base in
-    let a = subst (λ n. Accepted n c.args.m c.args.table.now) c.states.ensures c.in-ok-judge.ensures in
+    let a = subst (λ n. Accepted n c.args.m c.args.table.now) c.states.ensures c.in_ok-judge.ensures in
     record {
       judged = a;
       kept = (refl {a = c.args.self.now.base}, refl {a = c.args.m});

@@ -5,8 +5,8 @@ use Rattle.monitor.specs.Valid.{entry_below}
 use Rattle.monitor.proofs.Products.{member_below, paired_member, paired_past}
 use Rattle.monitor.proofs.Monitored.product_member.Goals as goal
 
-pub overflow-mul-result : goal.overflow-mul-result
-overflow-mul-result g c =
+pub overflow_mul-result : goal.overflow_mul-result
+overflow_mul-result g c =
     let v = c.args.self.now in
     let valid = g.S.Source.valid v.base in
     let t = member_below (g.S.Source.game v.base) (c.args.state / v.monitor.states) c.args.a c.args.b c.args.k valid (omega arith) in
@@ -20,22 +20,22 @@ next-requires g c =
     let q = mod_below c.args.state v.monitor.states v.monitor.some in
     rw c.states.ensures (omega (arith, mul-add-lt (c.args.state % v.monitor.states) (g.S.Source.game v.base).size c.member-t.result v.monitor.states q (omega arith)))
 
-pub overflow-add-result : goal.overflow-add-result
-overflow-add-result g c =
+pub overflow_add-result : goal.overflow_add-result
+overflow_add-result g c =
     let v = c.args.self.now in
     let t = member_below (g.S.Source.game v.base) (c.args.state / v.monitor.states) c.args.a c.args.b c.args.k (g.S.Source.valid v.base) (omega arith) in
     let next = entry_below v.monitor.states v.monitor.table v.monitor.some v.monitor.entries (c.args.state % v.monitor.states * c.states.result + c.member-t.result) in
     Fits-below {n = 256} tt (omega (arith, mul-add-lt c.member-t.result v.monitor.states c.next.result (g.S.Source.game v.base).size (omega arith) (omega arith)))
 
-pub returns-then-k-support-size : goal.returns-then-k-support-size
-returns-then-k-support-size g c =
+pub returns-then-k-support_size : goal.returns-then-k-support_size
+returns-then-k-support_size g c =
     let v = c.args.self.now in
     let base = g.S.Source.game v.base in
     let p = paired_member v.monitor.table base.size v.monitor.states (c.args.state % v.monitor.states) (base.support (c.args.state / v.monitor.states) c.args.a c.args.b) c.args.k (omega arith) in
     cc
 
-pub returns-else-k-support-size : goal.returns-else-k-support-size
-returns-else-k-support-size g c =
+pub returns-else-k-support_size : goal.returns-else-k-support_size
+returns-else-k-support_size g c =
     let v = c.args.self.now in
     let base = g.S.Source.game v.base in
     sym (paired_past v.monitor.table base.size v.monitor.states (c.args.state % v.monitor.states) (base.support (c.args.state / v.monitor.states) c.args.a c.args.b) c.args.k (omega arith))

@@ -4,8 +4,8 @@ use Rattle.layout.specs.Reading.{moves_in}
 use Rattle.game.proofs.Digits.{ones_rank}
 use Rattle.records.proofs.members.count_bits.Goals as goal
 
-pub overflow-cast-result : goal.overflow-cast-result
-overflow-cast-result c = record { fits = omega (arith, ones-le 8 c.args.byte (omega arith)) }
+pub overflow_cast-result : goal.overflow_cast-result
+overflow_cast-result c = record { fits = omega (arith, ones-le 8 c.args.byte (omega arith)) }
 
 pub returns : goal.returns
 unfolding moves_in

@@ -11,30 +11,30 @@ use Rattle.records.proofs.record.read_record.Goals as goal
 pub loop-s-init : goal.loop-s-init
 loop-s-init c = (sym (row_place_first c.args.bytes.now), omega arith, omega arith, λ r h. absurd (omega arith), λ r h. absurd (omega arith))
 
-pub returns-in-err-cursor : goal.returns-in-err-cursor
-returns-in-err-cursor c =
-    let p = err_from_is_err_and c.from-residual.result c.from-residual.ensures.1 in
+pub returns-in_err-cursor : goal.returns-in_err-cursor
+returns-in_err-cursor c =
+    let p = err_from_is_err_and c.from_residual.result c.from_residual.ensures.1 in
     let bs = c.args.bytes.now in
     let inv = c.loop-s.invariant in
     rw (p.1, p.2)
-    (bad_row (omega arith) (omega arith) c.loop-s.s c.loop-s-test.true inv.3 (subst (λ q. BadRow (states_in bs) bs q c.loop-s.s (told c.in-err-cursor.field-0.0)) inv.0 c.in-err-cursor.ensures.cases))
+    (bad_row (omega arith) (omega arith) c.loop-s.s c.loop-s-test.true inv.3 (subst (λ q. BadRow (states_in bs) bs q c.loop-s.s (told c.in_err-cursor.field-0.0)) inv.0 c.in_err-cursor.ensures.cases))
 
 pub loop-s-preserved : goal.loop-s-preserved
 loop-s-preserved c =
     let bs = c.args.bytes.now in
     let s = c.loop-s.s in
     let inv = c.loop-s.invariant in
-    let row = c.in-ok-cursor.ensures in
+    let row = c.in_ok-cursor.ensures in
     let rows = c.loop-s.places.rows in
     let firsts = c.loop-s.places.firsts in
     let in_rows : s < length rows = search rules in
-    let in_firsts : s < length firsts = search rules in
-    let last = c.read-row.new.places in
+    let in-firsts : s < length firsts = search rules in
+    let last = c.read_row.new.places in
     let to = row.cases in
-    let placed = placed_more bs rows firsts c.loop-s.places.supports last.supports s c.loop-s.cursor.place c.loop-s.cursor.support c.in-ok-cursor.cursor.support inv.4 inv.0 in_rows in_firsts to.1 row.before to.5 in (
+    let placed = placed_more bs rows firsts c.loop-s.places.supports last.supports s c.loop-s.cursor.place c.loop-s.cursor.support c.in_ok-cursor.cursor.support inv.4 inv.0 in_rows in-firsts to.1 row.before to.5 in (
       to.0 ∙ ap (row_end bs) inv.0 ∙ sym (row_place_more bs s),
       to.2,
       to.3,
       below_more _ s inv.3 (subst (GoodRow (states_in bs) bs) inv.0 to.4),
-      subst₂ (λ r f. Placed bs r f last.supports (s + 1) c.in-ok-cursor.cursor.support) (sym row.rows) (sym row.firsts) placed,
+      subst₂ (λ r f. Placed bs r f last.supports (s + 1) c.in_ok-cursor.cursor.support) (sym row.rows) (sym row.firsts) placed,
     )

@@ -6,14 +6,14 @@ use Rattle.layout.specs.Faults.{BadSupport, bad_support}
 use Rattle.layout.proofs.Places.{sets_end_first, sets_end_more}
 use Rattle.records.proofs.row.read_row.Goals as goal
 
-pub returns-in-err-first : goal.returns-in-err-first
-returns-in-err-first c =
-    let p = err_from_is_err_and c.from-residual.result c.from-residual.ensures.1 in
-    record { rows = refl; firsts = refl; before = λ j h. refl; cases = rw (p.1, p.2) (c.in-err-first.ensures c.args.states) }
+pub returns-in_err-first : goal.returns-in_err-first
+returns-in_err-first c =
+    let p = err_from_is_err_and c.from_residual.result c.from_residual.ensures.1 in
+    record { rows = refl; firsts = refl; before = λ j h. refl; cases = rw (p.1, p.2) (c.in_err-first.ensures c.args.states) }
 
 pub loop-k-init : goal.loop-k-init
 loop-k-init c =
-    let m = c.in-ok-first.ensures in
+    let m = c.in_ok-first.ensures in
     (sym (sets_end_first c.args.bytes.now (c.args.from.place + 2)), m.0, omega arith, refl, refl, λ j h. refl, λ j h. absurd (omega arith), λ j h. absurd (omega arith))
 
 -- the row ends behind its last support
@@ -30,18 +30,18 @@ counted : (bs : List ℕ) (p m n x y : ℕ) → x ≡ moves_in m → y ≡ moves
 unfolding row_sets
 counted bs p m n x y e f g h = ap₂ ◌*◌ (e ∙ ap moves_in g) (f ∙ ap moves_in h)
 
-pub returns-in-err-place : goal.returns-in-err-place
-returns-in-err-place c =
-    let p = err_from_is_err_and c.from-residual-in-err-place.result c.from-residual-in-err-place.ensures.1 in
+pub returns-in_err-place : goal.returns-in_err-place
+returns-in_err-place c =
+    let p = err_from_is_err_and c.from_residual-in_err-place.result c.from_residual-in_err-place.ensures.1 in
     let bs = c.args.bytes.now in
-    let m = c.in-ok-first.ensures in
+    let m = c.in_ok-first.ensures in
     let inv = c.loop-k.invariant in
-    let all = counted bs c.args.from.place _ _ _ _ c.count-bits.ensures.0 c.count-bits-2.ensures.0 m.1 m.2 in
+    let all = counted bs c.args.from.place _ _ _ _ c.count_bits.ensures.0 c.count_bits-2.ensures.0 m.1 m.2 in
     record {
       rows = inv.3;
       firsts = inv.4;
       before = λ j h. kept_below _ c.args.from.support _ _ j (omega arith) h ∙ inv.5 j h;
-      cases = rw (p.1, p.2) (bad_support m.0 (omega arith) (omega arith) c.loop-k.k (subst (λ n. c.loop-k.k < n) all c.loop-k-test.true) inv.6 (subst (λ q. BadSupport c.args.states bs q (Some c.args.state) (told c.in-err-place.field-0.0)) inv.0 c.in-err-place.ensures));
+      cases = rw (p.1, p.2) (bad_support m.0 (omega arith) (omega arith) c.loop-k.k (subst (λ n. c.loop-k.k < n) all c.loop-k-test.true) inv.6 (subst (λ q. BadSupport c.args.states bs q (Some c.args.state) (told c.in_err-place.field-0.0)) inv.0 c.in_err-place.ensures));
     }
 
 pub loop-k-preserved : goal.loop-k-preserved
@@ -51,7 +51,7 @@ loop-k-preserved c =
     let first = c.args.from.support in
     let k = c.loop-k.k in
     let inv = c.loop-k.invariant in
-    let new = c.in-ok-place.ensures in
+    let new = c.in_ok-place.ensures in
     let xs = c.loop-k.places.supports in
     let room : first + k < length xs = search rules in (
       new.0 ∙ ap (set_end bs) inv.0 ∙ sym (sets_end_more bs start k),
@@ -67,9 +67,9 @@ loop-k-preserved c =
 pub returns : goal.returns
 returns c =
     let bs = c.args.bytes.now in
-    let m = c.in-ok-first.ensures in
+    let m = c.in_ok-first.ensures in
     let inv = c.loop-k.invariant in
-    let all = counted bs c.args.from.place _ _ _ _ c.count-bits.ensures.0 c.count-bits-2.ensures.0 m.1 m.2 in
+    let all = counted bs c.args.from.place _ _ _ _ c.count_bits.ensures.0 c.count_bits-2.ensures.0 m.1 m.2 in
     let done : c.loop-k.k ≡ row_sets bs c.args.from.place = omega (arith, all) in
     record {
       rows = inv.3;

@@ -10,7 +10,7 @@ returns-then-group-i c =
     let bs = c.args.bytes.now in
     let i = c.loop-i.i in
     let here = c.requires.0 in
-    let stands : bit (get_or bs c.args.place 0) i ≡ true = sym c.if-has-bit.ensures in
+    let stands : bit (get_or bs c.args.place 0) i ≡ true = sym c.if-has_bit.ensures in
     outside
     (subst (λ p. p < length bs) here (omega arith))
     i

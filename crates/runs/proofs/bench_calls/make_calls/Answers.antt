@@ -21,12 +21,12 @@ loop-i-preserved g c =
     let game = g.S.Source.game source in
     let inv = c.loop-i.invariant in
     let b = c.loop-i.bench in
-    let made = c.make-call.ensures in
+    let made = c.make_call.ensures in
     let call = get_or c.args.calls.now c.loop-i.i (Mark 0) in
-    made_more game source c.args.calls.now c.args.answers.now c.loop-i.answers c.loop-i.i b c.make-call.new.bench call c.make-call.result inv
+    made_more game source c.args.calls.now c.args.answers.now c.loop-i.answers c.loop-i.i b c.make_call.new.bench call c.make_call.result inv
     c.loop-i-test.true c.if-answers-calls.false (get_or_default c.args.calls.now c.loop-i.i (Mark 0) call c.loop-i-test.true) made.source
-    (subst (λ s. Sound (g.S.Source.game s) b → Sound (g.S.Source.game s) c.make-call.new.bench) inv.same_source made.sound inv.sound)
-    (subst (λ s. Sound (g.S.Source.game s) b → Step (g.S.Source.game s) (held b) (call_of call) (answer_of c.make-call.result) (held c.make-call.new.bench)) inv.same_source made.step inv.sound)
+    (subst (λ s. Sound (g.S.Source.game s) b → Sound (g.S.Source.game s) c.make_call.new.bench) inv.same_source made.sound inv.sound)
+    (subst (λ s. Sound (g.S.Source.game s) b → Step (g.S.Source.game s) (held b) (call_of call) (answer_of c.make_call.result) (held c.make_call.new.bench)) inv.same_source made.step inv.sound)
 
 pub returns : goal.returns
 returns g c =

@@ -37,8 +37,8 @@ pub returns-in-Force : goal.returns-in-Force
 returns-in-Force g c =
     let x = position_of (g.S.Source.game c.args.source.now) c.args.entries.now.at in
     let inside = Within c.args.ranks.now.at c.args.level in
-    subst (λ (v : Step). Exactly (not (eqb c.moves-into.result 0) ≡ true) (step_of x (set_of v) inside c.args.state)) (sym c.in-Force.is)
-    (forces x inside c.args.state c.moves-into.result c.requires.0 c.moves-into.type-inv c.moves-into.ensures)
+    subst (λ (v : Step). Exactly (not (eqb c.moves_into.result 0) ≡ true) (step_of x (set_of v) inside c.args.state)) (sym c.in-Force.is)
+    (forces x inside c.args.state c.moves_into.result c.requires.0 c.moves_into.type_inv c.moves_into.ensures)
 
 pub returns-then-within : goal.returns-then-within
 returns-then-within g c =
@@ -49,5 +49,5 @@ returns-then-within g c =
     let within : Within outer.ranks.at 255 s = cc in
     let stays = (subst (Stays x) c.in-Touch.is c.requires.1).0 s within in
     let (to, back) = touches x (Within outer.ranks.at 255) inside s (get_or outer.stay s 0) within stays in
-    subst (λ (v : Step). Exactly (c.can-lead.result ≡ true) (step_of x (set_of v) inside s)) (sym c.in-Touch.is)
-    ((λ e. to (c.can-lead.ensures.0 e)), (λ h. c.can-lead.ensures.1 (back h)))
+    subst (λ (v : Step). Exactly (c.can_lead.result ≡ true) (step_of x (set_of v) inside s)) (sym c.in-Touch.is)
+    ((λ e. to (c.can_lead.ensures.0 e)), (λ h. c.can_lead.ensures.1 (back h)))

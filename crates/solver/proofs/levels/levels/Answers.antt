@@ -10,7 +10,7 @@ use Rattle.solver.proofs.levels.levels.Goals as goal
 pub loop-level-init : goal.loop-level-init
 loop-level-init g c =
     let x = position_of (g.S.Source.game c.args.source.now) c.args.entries.now.at in
-    (search rules, all_marked (layers_of x (set_of c.args.step)) 0, c.target-ranks-ranks.ensures)
+    (search rules, all_marked (layers_of x (set_of c.args.step)) 0, c.target_ranks-ranks.ensures)
 
 -- all sweeps were made
 pub returns-after-loop-level : goal.returns-after-loop-level

@@ -7,7 +7,7 @@ use Rattle.solver.specs.Steps.{set_of}
 use Rattle.solver.proofs.Marks.{noted_none, noted_more, noted_spares}
 use Rattle.solver.proofs.Steps.{stays_inside, stays_layered}
 use Rattle.solver.proofs.levels.sweep.Goals as goal
-use Rattle.solver.proofs.levels.sweep.Goals.{then_marks_state+then_not_within+then_enters, else_marks_state, else_marks_state_via_then_marks_state+then_not_within+else_enters, else_marks_state_via_then_marks_state+else_not_within, else_marks_state_via_else_marks_state}
+use Rattle.solver.proofs.levels.sweep.Goals.{then-marks-state+then-not-within+then-enters, else-marks-state, else-marks-state-via-then-marks-state+then-not-within+else-enters, else-marks-state-via-then-marks-state+else-not-within, else-marks-state-via-else-marks-state}
 
 pub loop-state-init : goal.loop-state-init
 loop-state-init g c =
@@ -27,26 +27,26 @@ loop-state-preserved g c =
     let (whole, wide, noted, so_far) = c.loop-state.invariant in
     let rank = rank_at c.loop-state.ranks.at c.loop-state.state in
     elim c.if-marks-state.branch [
-      | then_marks_state+then_not_within+then_enters w ↦
+      | then-marks-state+then-not-within+then-enters w ↦
           let after : c.if-marks-state.ranks.at ≡ set c.loop-state.ranks.at c.loop-state.state (Some (c.args.level + 1)) = ap (λ r. r.at) w.ranks-is ∙ w.give.ensures in
           let no : up_to 255 rank ≡ false = cc in
           rw (after, w.entered-is, w.next-is) (
             simp length-set whole,
-            w.mark-before.ensures.whole,
-            noted_more c.loop-state.state noted w.mark-before.ensures.marks,
+            w.mark_before.ensures.whole,
+            noted_more c.loop-state.state noted w.mark_before.ensures.marks,
             swept_enters layered c.args.level so_far (omega arith) (omega arith) no (w.enters.ensures.0 w.if-enters.true),
           )
-      | else_marks_state w ↦
+      | else-marks-state w ↦
           rw (w.ranks-is, w.entered-is, w.next-is) (
             whole,
             wide,
             noted,
-            elim w.else_marks_state.branch [
-              | else_marks_state_via_then_marks_state+then_not_within+else_enters v ↦
+            elim w.else-marks-state.branch [
+              | else-marks-state-via-then-marks-state+then-not-within+else-enters v ↦
                   let no : up_to 255 rank ≡ false = cc in
                   swept_out layered c.args.level so_far (omega arith) no (λ a. both_ways v.enters.result v.if-enters.false (v.enters.ensures.1 a))
-              | else_marks_state_via_then_marks_state+else_not_within v ↦ let yes : up_to 255 rank ≡ true = cc in swept_ranked layered c.args.level so_far yes
-              | else_marks_state_via_else_marks_state v ↦ swept_spared layered c.args.level so_far (omega arith) (c.requires.spares c.loop-state.state (omega arith) v.if-marks-state.false)
+              | else-marks-state-via-then-marks-state+else-not-within v ↦ let yes : up_to 255 rank ≡ true = cc in swept_ranked layered c.args.level so_far yes
+              | else-marks-state-via-else-marks-state v ↦ swept_spared layered c.args.level so_far (omega arith) (c.requires.spares c.loop-state.state (omega arith) v.if-marks-state.false)
             ],
           )
     ]

@@ -6,7 +6,7 @@ use Rattle.game.specs.declared.player.Player.TheVariants.{One, Two}
 use Rattle.solver.specs.Entries.{position_of}
 use Rattle.solver.proofs.Linking.{states_grow, moves_grow, replies_add, replies_skip, moves_add, states_add, all_linked}
 use Rattle.solver.proofs.links.find_links.Goals as goal
-use Rattle.solver.proofs.links.find_links.Goals.{then_has_bit+then_has_bit_2, else_has_bit, else_has_bit_via_then_has_bit+else_has_bit_2, else_has_bit_via_else_has_bit}
+use Rattle.solver.proofs.links.find_links.Goals.{then-has_bit+then-has_bit-2, else-has_bit, else-has_bit-via-then-has_bit+else-has_bit-2, else-has_bit-via-else-has_bit}
 
 pub loop-state-init : goal.loop-state-init
 loop-state-init g c = (length-replicate 65536 false, (λ s l. absurd (omega arith)))
@@ -25,24 +25,24 @@ loop-b-preserved g c =
     let b = c.loop-b.b in
     let links = c.loop-b.links.at in
     let (whole, states, moves, replies) = c.loop-b.invariant in
-    elim c.if-has-bit.branch [
-      | then_has_bit+then_has_bit_2 w ↦
-          let more = w.add-support.new.self.at in
+    elim c.if-has_bit.branch [
+      | then-has_bit+then-has_bit-2 w ↦
+          let more = w.add_support.new.self.at in
           rw w.links-is (
-            w.add-support.ensures.whole,
-            states_grow x links more s w.add-support.ensures.stay states,
-            moves_grow x links more s a w.add-support.ensures.stay moves,
-            replies_add x links more s a b w.add-support.ensures.stay replies w.add-support.ensures.noted,
+            w.add_support.ensures.whole,
+            states_grow x links more s w.add_support.ensures.stay states,
+            moves_grow x links more s a w.add_support.ensures.stay moves,
+            replies_add x links more s a b w.add_support.ensures.stay replies w.add_support.ensures.noted,
           )
-      | else_has_bit w ↦
+      | else-has_bit w ↦
           rw w.links-is (
             whole,
             states,
             moves,
             replies_skip x links s a b replies (λ two one.
-                elim w.else_has_bit.branch [
-                  | else_has_bit_via_then_has_bit+else_has_bit_2 v ↦ let no : bit (x.kept Two s) b ≡ false = cc in both_ways (bit (x.kept Two s) b) no two
-                  | else_has_bit_via_else_has_bit v ↦ let no : bit (x.kept One s) a ≡ false = cc in both_ways (bit (x.kept One s) a) no one
+                elim w.else-has_bit.branch [
+                  | else-has_bit-via-then-has_bit+else-has_bit-2 v ↦ let no : bit (x.kept Two s) b ≡ false = cc in both_ways (bit (x.kept Two s) b) no two
+                  | else-has_bit-via-else-has_bit v ↦ let no : bit (x.kept One s) a ≡ false = cc in both_ways (bit (x.kept One s) a) no one
                 ]),
           )
     ]

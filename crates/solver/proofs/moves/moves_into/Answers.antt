@@ -39,7 +39,7 @@ moves-preserved g c =
     let kept : Keeps x One s c.moves.a = cc in
     let inside = Within c.args.ranks.now.at c.args.level in
     let into = all_bits (λ b. (t : ℕ) → Leads x s c.moves.a b t → inside t) (x.kept Two s) c.loop-b.b (omega arith) (omega arith) c.loop-b.invariant in
-    gathers_put (Stay x inside s) c.moves.a c.moves.moves c.with-bit-moves.result c.moves.invariant c.moves-test.true (kept, into) c.with-bit-moves.ensures
+    gathers_put (Stay x inside s) c.moves.a c.moves.moves c.with_bit-moves.result c.moves.invariant c.moves-test.true (kept, into) c.with_bit-moves.ensures
 
 pub returns : goal.returns
 returns g c a =

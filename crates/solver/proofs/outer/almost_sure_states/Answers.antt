@@ -5,20 +5,20 @@ use Rattle.solver.proofs.outer.almost_sure_states.Goals as goal
 
 pub loop-rounds-init : goal.loop-rounds-init
 loop-rounds-init g c = (
-  c.with-stay-moves-set.ensures.stay,
+  c.with_stay_moves-set.ensures.stay,
   c.levels-inner.ensures.states,
-  λ ok. round_first (λ s. rw c.with-stay-moves-set.ensures.ranks (c.all-states.ensures s)) (c.levels-inner.ensures.ranks ok),
+  λ ok. round_first (λ s. rw c.with_stay_moves-set.ensures.ranks (c.all_states.ensures s)) (c.levels-inner.ensures.ranks ok),
 )
 
-pub with-stay-moves-set-requires-in-loop-rounds : goal.with-stay-moves-set-requires-in-loop-rounds
-with-stay-moves-set-requires-in-loop-rounds g c = c.loop-rounds.invariant.1
+pub with_stay_moves-set-requires-in-loop-rounds : goal.with_stay_moves-set-requires-in-loop-rounds
+with_stay_moves-set-requires-in-loop-rounds g c = c.loop-rounds.invariant.1
 
 pub loop-rounds-preserved : goal.loop-rounds-preserved
 loop-rounds-preserved g c = (
-  c.with-stay-moves-set-in-loop-rounds.ensures.stay,
+  c.with_stay_moves-set-in-loop-rounds.ensures.stay,
   c.levels-inner-in-loop-rounds.ensures.states,
   λ ok.
-      round_next ok (c.loop-rounds.invariant.2 ok) (ap (λ r. r.at) c.with-stay-moves-set-in-loop-rounds.ensures.ranks)
+      round_next ok (c.loop-rounds.invariant.2 ok) (ap (λ r. r.at) c.with_stay_moves-set-in-loop-rounds.ensures.ranks)
       (λ h. both_ways c.covers.result c.if-not-covers.true (c.covers.ensures.1 h))
       (c.levels-inner-in-loop-rounds.ensures.ranks ok),
 )

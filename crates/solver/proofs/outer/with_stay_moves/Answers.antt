@@ -1,7 +1,7 @@
 use Rattle.std.proofs.Common.{◌<◌, ◌≢◌, length, refl, ◌∙◌, arith, length-set, get_or-set_other, get_or-set_same, below_none, below_more}
 use Rattle.std.proofs.lemmas.Bool.{both_ways}
 use Rattle.solver.proofs.outer.with_stay_moves.Goals as goal
-use Rattle.solver.proofs.outer.with_stay_moves.Goals.{then_within, else_within}
+use Rattle.solver.proofs.outer.with_stay_moves.Goals.{then-within, else-within}
 
 pub loop-state-init : goal.loop-state-init
 loop-state-init g c = (omega arith, below_none _)
@@ -11,15 +11,15 @@ loop-state-preserved g c =
     let i = c.loop-state.state in
     let (size, before) = c.loop-state.invariant in
     elim c.if-within.branch [
-      | then_within w ↦
+      | then-within w ↦
           let here : i < length c.loop-state.stay = omega arith in
           rw w.stay-is (
             simp length-set size,
             below_more _ i
                 (λ s l. let ne : s ≢ i = omega arith in rw get_or-set_other (before s l))
-                (λ _. rw get_or-set_same w.moves-into.ensures),
+                (λ _. rw get_or-set_same w.moves_into.ensures),
           )
-      | else_within w ↦
+      | else-within w ↦
           rw w.stay-is (size, below_more _ i before (λ e. absurd (both_ways _ w.if-within.false (c.within.ensures ∙ e))))
     ]
 

@@ -20,6 +20,6 @@ pub returns-in-Some : goal.returns-in-Some
 returns-in-Some g c = record {
   rank = c.in-Some.ensures;
   moves =
-      lower_moves (position_of (g.S.Source.game c.args.source.now) c.args.entries.now.at) c.args.ranks.now.at c.args.state c.in-Some.r c.moves-into-moves.result
-      (sym c.in-Some.ensures) c.if-r-gt0.true c.moves-into-moves.ensures;
+      lower_moves (position_of (g.S.Source.game c.args.source.now) c.args.entries.now.at) c.args.ranks.now.at c.args.state c.in-Some.r c.moves_into-moves.result
+      (sym c.in-Some.ensures) c.if-r-gt0.true c.moves_into-moves.ensures;
 }

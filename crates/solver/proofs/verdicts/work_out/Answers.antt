@@ -15,29 +15,29 @@ loop-state-init g c = held_none
 
 pub loop-state-preserved : goal.loop-state-preserved
 loop-state-preserved g c =
-    let room : c.loop_state.state < length c.loop_state.entries.at = omega (arith, c.loop_state.entries.whole, c.states-states.ensures, (g.S.Source.valid c.args.source.now).few_states) in
-    let found = c.almost-sure-states-almost.result in
-    held_more {old = c.args.entries.now.at} {ranks = c.levels-sure.result.at} {levels = found.levels.at} {stay = found.outer.stay} c.sure-verdict-first.result c.almost-verdict-second.result room c.loop_state.invariant
+    let room : c.loop-state.state < length c.loop-state.entries.at = omega (arith, c.loop-state.entries.whole, c.states-states.ensures, (g.S.Source.valid c.args.source.now).few_states) in
+    let found = c.almost_sure_states-almost.result in
+    held_more {old = c.args.entries.now.at} {ranks = c.levels-sure.result.at} {levels = found.levels.at} {stay = found.outer.stay} c.sure_verdict-first.result c.almost_verdict-second.result room c.loop-state.invariant
     (record {
-      sure-rank = c.sure-verdict-first.ensures.rank;
-      sure-moves = c.sure-verdict-first.ensures.moves;
-      almost-rank = c.almost-verdict-second.ensures.rank;
-      almost-moves = c.almost-verdict-second.ensures.moves;
+      sure-rank = c.sure_verdict-first.ensures.rank;
+      sure-moves = c.sure_verdict-first.ensures.moves;
+      almost-rank = c.almost_verdict-second.ensures.rank;
+      almost-moves = c.almost_verdict-second.ensures.moves;
     })
-    c.set-verdicts.ensures
+    c.set_verdicts.ensures
 
 pub returns : goal.returns
 returns g c =
     let game = g.S.Source.game c.args.source.now in
     let x = position_of game c.args.entries.now.at in
     let ranks = c.levels-sure.result.at in
-    let found = c.almost-sure-states-almost.result in
-    let facts = c.almost-sure-states-almost.ensures in
-    let held = subst (λ n. Held game c.args.entries.now.at ranks found.levels.at found.outer.stay n c.loop_state.entries.at) {y = game.size} (omega (arith, c.states-states.ensures)) c.loop_state.invariant in
+    let found = c.almost_sure_states-almost.result in
+    let facts = c.almost_sure_states-almost.ensures in
+    let held = subst (λ n. Held game c.args.entries.now.at ranks found.levels.at found.outer.stay n c.loop-state.entries.at) {y = game.size} (omega (arith, c.states-states.ensures)) c.loop-state.invariant in
     let sure : Playable x → (s : ℕ) → RankFull (Sure x) s (rank_at ranks s) = λ ok s. subst (λ step. RankFull (layers_of x (set_of step)) s (rank_at ranks s)) c.force.ensures (c.levels-sure.ensures.ranks ok s) in
     record {
-      kept = c.loop_state.invariant.alike.0;
-      target = c.loop_state.invariant.alike.1;
+      kept = c.loop-state.invariant.alike.0;
+      target = c.loop-state.invariant.alike.1;
       ranks = λ ok. held_ranks found.outer.ranks.at held ok (sure ok) (facts.rounds ok) (facts.outer ok) (facts.levels ok) facts.stay.0;
       moves = λ ok. held_moves found.outer.ranks.at held ok (sure ok) (facts.rounds ok) (facts.outer ok) (facts.levels ok) facts.stay.0;
       sure = λ ok.

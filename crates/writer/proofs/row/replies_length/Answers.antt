@@ -5,14 +5,14 @@ use Rattle.writer.specs.Rows.{support_bytes, replies}
 use Rattle.layout.proofs.Joined.{length_joined_small, length_joined_yes, length_joined_no}
 use Rattle.writer.proofs.Rows.{support_is, move_test, support_small}
 use Rattle.writer.proofs.row.replies_length.Goals as goal
-use Rattle.writer.proofs.row.replies_length.Goals.{then_has_bit, else_has_bit}
+use Rattle.writer.proofs.row.replies_length.Goals.{then-has_bit, else-has_bit}
 
 pub loop-b-init : goal.loop-b-init
 unfolding below
 loop-b-init g c = refl
 
-pub overflow-add-length : goal.overflow-add-length
-overflow-add-length g c =
+pub overflow_add-length : goal.overflow_add-length
+overflow_add-length g c =
     let game = g.S.Source.game c.args.source.now in
     let s = c.args.state in
     let a = c.args.a in
@@ -27,9 +27,9 @@ loop-b-preserved g c =
     let b = c.loop-b.b in
     let f = support_bytes game s a in
     let q = bit (game.choices Two s) in
-    elim c.if-has-bit.branch [
-      | then_has_bit w ↦ omega (arith, w.length-is, length_joined_yes f q b (move_test b c.moves-moves.ensures c.has-bit.ensures w.if-has-bit.true), ap length (support_is game s a b w.gather.result w.gather.ensures), w.set-length-length.ensures)
-      | else_has_bit w ↦ omega (arith, w.length-is, length_joined_no f q b (move_test b c.moves-moves.ensures c.has-bit.ensures w.if-has-bit.false))
+    elim c.if-has_bit.branch [
+      | then-has_bit w ↦ omega (arith, w.length-is, length_joined_yes f q b (move_test b c.moves-moves.ensures c.has_bit.ensures w.if-has_bit.true), ap length (support_is game s a b w.gather.result w.gather.ensures), w.set_length-length.ensures)
+      | else-has_bit w ↦ omega (arith, w.length-is, length_joined_no f q b (move_test b c.moves-moves.ensures c.has_bit.ensures w.if-has_bit.false))
     ]
 
 pub returns : goal.returns

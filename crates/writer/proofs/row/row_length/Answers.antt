@@ -5,14 +5,14 @@ use Rattle.writer.specs.Rows.{replies}
 use Rattle.layout.proofs.Joined.{length_joined_small, length_joined_yes, length_joined_no}
 use Rattle.writer.proofs.Rows.{row_is, move_test, replies_small}
 use Rattle.writer.proofs.row.row_length.Goals as goal
-use Rattle.writer.proofs.row.row_length.Goals.{then_has_bit, else_has_bit}
+use Rattle.writer.proofs.row.row_length.Goals.{then-has_bit, else-has_bit}
 
 pub loop-a-init : goal.loop-a-init
 unfolding below
 loop-a-init g c = refl
 
-pub overflow-add-length : goal.overflow-add-length
-overflow-add-length g c =
+pub overflow_add-length : goal.overflow_add-length
+overflow_add-length g c =
     let game = g.S.Source.game c.args.source.now in
     let s = c.args.state in
     let a = c.loop-a.a in
@@ -25,9 +25,9 @@ loop-a-preserved g c =
     let a = c.loop-a.a in
     let f = replies game s in
     let q = bit (game.choices One s) in
-    elim c.if-has-bit.branch [
-      | then_has_bit w ↦ omega (arith, w.length-is, length_joined_yes f q a (move_test a c.moves-moves.ensures c.has-bit.ensures w.if-has-bit.true), w.replies-length-length.ensures)
-      | else_has_bit w ↦ omega (arith, w.length-is, length_joined_no f q a (move_test a c.moves-moves.ensures c.has-bit.ensures w.if-has-bit.false))
+    elim c.if-has_bit.branch [
+      | then-has_bit w ↦ omega (arith, w.length-is, length_joined_yes f q a (move_test a c.moves-moves.ensures c.has_bit.ensures w.if-has_bit.true), w.replies_length-length.ensures)
+      | else-has_bit w ↦ omega (arith, w.length-is, length_joined_no f q a (move_test a c.moves-moves.ensures c.has_bit.ensures w.if-has_bit.false))
     ]
 
 pub returns : goal.returns

@@ -17,8 +17,8 @@ turn g c =
 pub bounds-groups-from : goal.bounds-groups-from
 bounds-groups-from g c = (turn g c).place
 
-pub overflow-add-groups : goal.overflow-add-groups
-overflow-add-groups g c = omega (arith, (turn g c).sum)
+pub overflow_add-groups : goal.overflow_add-groups
+overflow_add-groups g c = omega (arith, (turn g c).sum)
 
 pub bounds-groups-from-in-loop-k : goal.bounds-groups-from-in-loop-k
 bounds-groups-from-in-loop-k g c = (turn g c).place

@@ -5,7 +5,7 @@ use Rattle.writer.specs.Written.{Puts}
 use Rattle.writer.proofs.Sets.{groups_none, groups_yes, groups_no, groups_room, length_packed, packed_at, packed_split}
 use Rattle.writer.proofs.Written.{written_none, written_next, puts_none, puts_same, puts_one, puts_more}
 use Rattle.writer.proofs.set.put_set.Goals as goal
-use Rattle.writer.proofs.set.put_set.Goals.{then_group_gt0, else_group_gt0}
+use Rattle.writer.proofs.set.put_set.Goals.{then-group-gt0, else-group-gt0}
 
 pub loop-j-init : goal.loop-j-init
 loop-j-init c = sym (written_none c.args.buffer.now c.args.at)
@@ -29,8 +29,8 @@ pub bounds-buffer-end : goal.bounds-buffer-end
 bounds-buffer-end c =
     omega (arith, groups_room c.args.groups.now c.loop-group.group_index c.loop-group-test.true c.if-group-gt0.true)
 
-pub overflow-add-end-then-group-gt0 : goal.overflow-add-end-then-group-gt0
-overflow-add-end-then-group-gt0 c =
+pub overflow_add-end-then-group-gt0 : goal.overflow_add-end-then-group-gt0
+overflow_add-end-then-group-gt0 c =
     omega (arith, groups_room c.args.groups.now c.loop-group.group_index c.loop-group-test.true c.if-group-gt0.true)
 
 pub loop-group-preserved : goal.loop-group-preserved
@@ -38,10 +38,10 @@ loop-group-preserved c =
     let gs = c.args.groups.now in
     let n = c.loop-group.group_index in
     elim c.if-group-gt0.branch [
-      | then_group_gt0 w ↦
+      | then-group-gt0 w ↦
           let room = groups_room gs n c.loop-group-test.true w.if-group-gt0.true in
           puts_same (puts_one _ c.loop-group.invariant (omega arith)) (groups_yes gs n w.if-group-gt0.true) w.buffer-is w.end-is
-      | else_group_gt0 w ↦ puts_same c.loop-group.invariant (groups_no gs n w.if-group-gt0.false) w.buffer-is w.end-is
+      | else-group-gt0 w ↦ puts_same c.loop-group.invariant (groups_no gs n w.if-group-gt0.false) w.buffer-is w.end-is
     ]
 
 pub returns : goal.returns

@@ -8,27 +8,27 @@ use Rattle.bench.specs.Held.{not_asked, sure_state, not_kept, no_reply}
 use Rattle.bench.proofs.Questions.{rank_there, no_rank, reply_step, not_countered_step}
 use Rattle.bench.proofs.bench.Bench.reply.Goals as goal
 
-pub returns-in-err-check-solved : goal.returns-in-err-check-solved
-returns-in-err-check-solved g c =
-    let p = err_from_is_err_and c.from-residual.result c.from-residual.ensures.1 in
-    let cause = c.in-err-check-solved.ensures in
+pub returns-in_err-check_solved : goal.returns-in_err-check_solved
+returns-in_err-check_solved g c =
+    let p = err_from_is_err_and c.from_residual.result c.from_residual.ensures.1 in
+    let cause = c.in_err-check_solved.ensures in
     rw (p.1, p.2) (record { stored = not_asked cause; step = not_countered_step c.args.self.now c.args.state c.args.a (not_asked cause) })
 
-pub returns-then-is-some : goal.returns-then-is-some
-returns-then-is-some g c =
+pub returns-then-is_some : goal.returns-then-is_some
+returns-then-is_some g c =
     let b = c.args.self.now in
     let s = c.args.state in
-    let asked = c.in-ok-check-solved.ensures in
-    let (r, there) = rank_there c.verdict.result.rank (sym c.if-is-some.ensures) in
+    let asked = c.in_ok-check_solved.ensures in
+    let (r, there) = rank_there c.verdict.result.rank (sym c.if-is_some.ensures) in
     let sure : (verdict_in b.entries.at Sure s).rank ≡ Some r = cc in
     record { stored = sure_state r asked.0 asked.1 sure refl; step = not_countered_step b s c.args.a (sure_state r asked.0 asked.1 sure refl) }
 
-pub returns-then-not-has-bit : goal.returns-then-not-has-bit
-returns-then-not-has-bit g c =
+pub returns-then-not-has_bit : goal.returns-then-not-has_bit
+returns-then-not-has_bit g c =
     let b = c.args.self.now in
     let s = c.args.state in
-    let asked = c.in-ok-check-solved.ensures in
-    let out = no_rank c.verdict.result.rank (sym c.if-is-some.ensures) in
+    let asked = c.in_ok-check_solved.ensures in
+    let out = no_rank c.verdict.result.rank (sym c.if-is_some.ensures) in
     let none : (verdict_in b.entries.at Sure s).rank ≡ None = cc in
     let off : bit (kept_in b.entries.at One s) c.args.a ≡ false = cc in
     record { stored = not_kept asked.0 asked.1 none off refl; step = not_countered_step b s c.args.a (not_kept asked.0 asked.1 none off refl) }
@@ -37,8 +37,8 @@ pub returns-in-Some : goal.returns-in-Some
 returns-in-Some g c =
     let b = c.args.self.now in
     let s = c.args.state in
-    let asked = c.in-ok-check-solved.ensures in
-    let out = no_rank c.verdict.result.rank (sym c.if-is-some.ensures) in
+    let asked = c.in_ok-check_solved.ensures in
+    let out = no_rank c.verdict.result.rank (sym c.if-is_some.ensures) in
     let none : (verdict_in b.entries.at Sure s).rank ≡ None = cc in
     let kept : bit (kept_in b.entries.at One s) c.args.a ≡ true = cc in
     let so = c.in-Some.ensures in
@@ -48,8 +48,8 @@ pub returns-in-None : goal.returns-in-None
 returns-in-None g c =
     let b = c.args.self.now in
     let s = c.args.state in
-    let asked = c.in-ok-check-solved.ensures in
-    let out = no_rank c.verdict.result.rank (sym c.if-is-some.ensures) in
+    let asked = c.in_ok-check_solved.ensures in
+    let out = no_rank c.verdict.result.rank (sym c.if-is_some.ensures) in
     let none : (verdict_in b.entries.at Sure s).rank ≡ None = cc in
     let kept : bit (kept_in b.entries.at One s) c.args.a ≡ true = cc in
     let all = c.in-None.ensures in

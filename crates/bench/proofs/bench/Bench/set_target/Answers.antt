@@ -4,16 +4,16 @@ use Rattle.game.specs.declared.refusal.Refusal.TheVariants.{AlreadySo}
 use Rattle.bench.proofs.Edits.{edit_refused, target_edit, target_no_state, target_already, same_truth, other_truth}
 use Rattle.bench.proofs.bench.Bench.set_target.Goals as goal
 
-pub returns-in-err-check-state : goal.returns-in-err-check-state
-returns-in-err-check-state g c =
-    let p = err_from_is_err_and c.from-residual.result c.from-residual.ensures.1 in
-    let no = c.in-err-check-state.ensures in
+pub returns-in_err-check_state : goal.returns-in_err-check_state
+returns-in_err-check_state g c =
+    let p = err_from_is_err_and c.from_residual.result c.from_residual.ensures.1 in
+    let no = c.in_err-check_state.ensures in
     rw (p.1, p.2) (edit_refused _ c.args.self.now _ (target_no_state _ _ c.args.in_target _ no.0 no.1))
 
-pub returns-then-target-in-target : goal.returns-then-target-in-target
-returns-then-target-in-target g c = let l = c.in-ok-check-state.ensures in edit_refused AlreadySo c.args.self.now _ (target_already _ _ c.args.in_target c.args.state l (sym c.target.ensures ∙ same_truth c.target.result c.args.in_target c.if-target-in-target.true))
+pub returns-then-target_in-target : goal.returns-then-target_in-target
+returns-then-target_in-target g c = let l = c.in_ok-check_state.ensures in edit_refused AlreadySo c.args.self.now _ (target_already _ _ c.args.in_target c.args.state l (sym c.target.ensures ∙ same_truth c.target.result c.args.in_target c.if-target_in-target.true))
 
 pub returns : goal.returns
 returns g c =
     let valid = g.S.Source.valid c.args.self.now.source in
-    target_edit c.args.self.now c.set-target.new.self c.args.state c.args.in_target valid.few_states c.in-ok-check-state.ensures (sym c.target.ensures ∙ other_truth c.target.result c.args.in_target c.if-target-in-target.false) c.set-target.ensures
+    target_edit c.args.self.now c.set_target.new.self c.args.state c.args.in_target valid.few_states c.in_ok-check_state.ensures (sym c.target.ensures ∙ other_truth c.target.result c.args.in_target c.if-target_in-target.false) c.set_target.ensures

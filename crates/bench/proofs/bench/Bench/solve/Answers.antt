@@ -6,9 +6,9 @@ pub returns : goal.returns
 returns g c =
     let game = g.S.Source.game c.args.self.now.source in
     let b = c.args.self.now in
-    let new = c.work-out-tally.new.entries in
-    let tally = c.work-out-tally.result in
-    let says = c.work-out-tally.ensures in
+    let new = c.work_out-tally.new.entries in
+    let tally = c.work_out-tally.result in
+    let says = c.work_out-tally.ensures in
     record {
       stays = (refl, refl, (says.kept, says.target));
       step = λ sound. solve_step game b new says.kept says.target tally.sure tally.almost tally.rounds (says.sure sound.playable) (says.almost sound.playable) (says.rounds sound.playable);

@@ -5,22 +5,22 @@ use Rattle.theory.specs.Plays.{settle_not_kept, settle_outside, settles}
 use Rattle.solver.specs.Entries.{target_in}
 use Rattle.bench.specs.Rounds.{rest_in}
 use Rattle.bench.proofs.play.OpenRound.settle.Goals as goal
-use Rattle.bench.proofs.play.OpenRound.settle.Goals.{then_met, else_met}
+use Rattle.bench.proofs.play.OpenRound.settle.Goals.{then-met, else-met}
 
-pub returns-then-not-has-bit : goal.returns-then-not-has-bit
-returns-then-not-has-bit g c =
-    settle_not_kept (rest_in c.args.self) c.args.self.a c.args.b c.args.successor (both_ways _ (ap (λ k. bit k c.args.b) (sym c.kept.ensures) ∙ sym c.if-not-has-bit.ensures))
+pub returns-then-not-has_bit : goal.returns-then-not-has_bit
+returns-then-not-has_bit g c =
+    settle_not_kept (rest_in c.args.self) c.args.self.a c.args.b c.args.successor (both_ways _ (ap (λ k. bit k c.args.b) (sym c.kept.ensures) ∙ sym c.if-not-has_bit.ensures))
 
-pub returns-then-not-can-lead : goal.returns-then-not-can-lead
-returns-then-not-can-lead g c =
-    settle_outside (rest_in c.args.self) c.args.self.a c.args.b c.args.successor (ap (λ k. bit k c.args.b) (sym c.kept.ensures) ∙ sym c.if-not-has-bit.ensures) (both_ways _ (sym c.if-not-can-lead.ensures))
+pub returns-then-not-can_lead : goal.returns-then-not-can_lead
+returns-then-not-can_lead g c =
+    settle_outside (rest_in c.args.self) c.args.self.a c.args.b c.args.successor (ap (λ k. bit k c.args.b) (sym c.kept.ensures) ∙ sym c.if-not-has_bit.ensures) (both_ways _ (sym c.if-not-can_lead.ensures))
 
 pub returns : goal.returns
 returns g c =
     let p = rest_in c.args.self in
     let met : c.if-met.result ≡ (c.args.self.met || target_in c.args.bench.now.entries.at c.args.successor) =
     elim c.if-met.branch [
-      | then_met w ↦ w.result-is ∙ w.if-met.true ∙ sym (or_left c.args.self.met _ w.if-met.true)
-      | else_met w ↦ w.result-is ∙ w.target.ensures ∙ sym (ap (λ v. v || target_in c.args.bench.now.entries.at c.args.successor) w.if-met.false)
+      | then-met w ↦ w.result-is ∙ w.if-met.true ∙ sym (or_left c.args.self.met _ w.if-met.true)
+      | else-met w ↦ w.result-is ∙ w.target.ensures ∙ sym (ap (λ v. v || target_in c.args.bench.now.entries.at c.args.successor) w.if-met.false)
     ] in
-    rw met (settles p c.args.self.a c.args.b c.args.successor (ap (λ k. bit k c.args.b) (sym c.kept.ensures) ∙ sym c.if-not-has-bit.ensures) (sym c.if-not-can-lead.ensures))
+    rw met (settles p c.args.self.a c.args.b c.args.successor (ap (λ k. bit k c.args.b) (sym c.kept.ensures) ∙ sym c.if-not-has_bit.ensures) (sym c.if-not-can_lead.ensures))

@@ -2,7 +2,7 @@ use Rattle.std.proofs.Common.{ℕ, refl, arith}
 use Rattle.solver.specs.Links.{link}
 use Rattle.solver.proofs.Linking.{marks_put, marks_skip}
 use Rattle.solver.proofs.links.Links.mark_before.Goals as goal
-use Rattle.solver.proofs.links.Links.mark_before.Goals.{then_self_before, else_self_before}
+use Rattle.solver.proofs.links.Links.mark_before.Goals.{then-self-before, else-self-before}
 
 pub loop-before-init : goal.loop-before-init
 loop-before-init c = (omega arith, ((λ s l. absurd (omega arith)), (λ s l. refl)))
@@ -14,8 +14,8 @@ loop-before-preserved c =
     let leads = λ (s : ℕ). link c.args.self.now.at s c.args.state in (
       c.if-self-before.array_long,
       elim c.if-self-before.branch [
-        | then_self_before w ↦ rw w.marks-is (marks_put leads old marks c.loop-before.before (omega arith) w.if-self-before.true c.loop-before.invariant.1)
-        | else_self_before w ↦ rw w.marks-is (marks_skip leads old marks c.loop-before.before w.if-self-before.false c.loop-before.invariant.1)
+        | then-self-before w ↦ rw w.marks-is (marks_put leads old marks c.loop-before.before (omega arith) w.if-self-before.true c.loop-before.invariant.1)
+        | else-self-before w ↦ rw w.marks-is (marks_skip leads old marks c.loop-before.before w.if-self-before.false c.loop-before.invariant.1)
       ],
     )
 
