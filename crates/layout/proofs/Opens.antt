@@ -1,10 +1,10 @@
 -- What a table says once it is opened, once it is refused, and before its first opening.
-use Rattle.std.proofs.Common.{◌≡◌, ℕ, zero, suc, ◌<◌, Bool, true, false, cond, ◌&&◌, eqb, List, [], ◌∷◌, refl, ap, ◌∙◌, arith}
+use Rattle.std.proofs.Common.{◌≡◌, ℕ, zero, suc, ◌<◌, true, cond, ◌&&◌, eqb, List, [], ◌∷◌, refl, ap, ◌∙◌, arith}
 use lib.Dec.{eqb-suc-zero}
 use Rattle.std.proofs.lemmas.Bool.{both_ways, ne_eqb, cond-false, cond_both}
 use Rattle.game.specs.Below.{below, bit, elem, weigh}
 use Rattle.game.proofs.Below.{bit_past, bit_zero}
-use Rattle.game.specs.Games.{Game, Ascends, Chosen, WellFormed, Same}
+use Rattle.game.specs.Games.{Ascends, Chosen, WellFormed, Same}
 use Rattle.game.specs.Refusals.{Told}
 use Rattle.layout.specs.Writing.{group, map_byte, set_bytes, row_bytes, record_of, Records}
 use Rattle.layout.specs.Reading.{shown, Bytes, GoodRecord}

@@ -4,40 +4,14 @@ use mathlib.Core.Logic.{∥∥₁_elim}
 use Rattle.game.specs.Below.{bit}
 use Rattle.game.specs.declared.player.Player.{Player}
 use Rattle.game.specs.declared.player.Player.TheVariants.{One, Two}
-use native.Mathlib.Bridge.{le_prop}
-use std.HLevel.{Π_prop}
-use base.Stored.{coded_ℕ}
-use denote.Struct.Props.{≡_prop, three_prop, four_prop}
-use Rattle.layout.specs.Placed.{Placed, Ready}
-use Rattle.layout.specs.Reading.{set_end, sets_end, row_sets, row_place, states_in, offset, moves_at, support_index, support_place, Bytes, GoodGroup, GoodSet, GoodSupport, GoodRow, GoodRecord}
+use Rattle.std.proofs.Props.{props}
+use Rattle.layout.specs.Placed.{Ready}
+use Rattle.layout.specs.Reading.{set_end, sets_end, row_sets, row_place, states_in, offset, moves_at, support_index, support_place}
 use Rattle.layout.proofs.Moves.{moves_at_in, moves_at_past, move_state, support_below, support_good}
 use Rattle.layout.proofs.SetShown.{set_shows}
 
-two_prop : {A B : Type 0} → IsProp A → IsProp B → IsProp (A × B)
-two_prop a b p q = λ i. (a p.0 q.0 i, b p.1 q.1 i)
-
-module _ (n : ℕ) (bs : List ℕ) where
-  group_prop : (p g : ℕ) → IsProp (GoodGroup n bs p g)
-  group_prop p g = three_prop le_prop le_prop (Π_prop (λ i. Π_prop (λ l. Π_prop (λ e. le_prop))))
-
-  set_prop : (p : ℕ) → IsProp (GoodSet n bs p)
-  set_prop p = two_prop le_prop (Π_prop (λ g. Π_prop (λ l. Π_prop (λ e. group_prop p g))))
-
-  support_prop : (p : ℕ) → IsProp (GoodSupport n bs p)
-  support_prop p = two_prop (set_prop p) le_prop
-
-  row_prop : (p : ℕ) → IsProp (GoodRow n bs p)
-  row_prop p = four_prop le_prop le_prop le_prop (Π_prop (λ k. Π_prop (λ l. support_prop _)))
-
-record_prop : (bs : List ℕ) → IsProp (GoodRecord bs)
-record_prop bs = four_prop le_prop le_prop (Π_prop (λ s. Π_prop (λ l. row_prop _ bs _))) (≡_prop coded_ℕ _ _)
-
-placed_prop : (bs rows firsts supports : List ℕ) (n top : ℕ) → IsProp (Placed bs rows firsts supports n top)
-placed_prop bs rows firsts supports n top =
-    Π_prop (λ s. Π_prop (λ l. three_prop (≡_prop coded_ℕ _ _) le_prop (Π_prop (λ k. Π_prop (λ h. ≡_prop coded_ℕ _ _)))))
-
 ready_prop : (bs rows firsts supports : List ℕ) → IsProp (Ready bs rows firsts supports)
-ready_prop bs rows firsts supports = three_prop (Π_prop (λ k. Π_prop (λ l. le_prop))) (record_prop bs) (placed_prop bs rows firsts supports _ _)
+ready_prop bs rows firsts supports = hlevel props
 
 pub ready_known : (bs rows firsts supports : List ℕ) → ∥ Ready bs rows firsts supports ∥₁ → Ready bs rows firsts supports
 ready_known bs rows firsts supports t = ∥∥₁_elim t (ready_prop bs rows firsts supports) (λ r. r)

@@ -1,12 +1,11 @@
 -- The fault that stands first in reading order: a field is at fault, and nothing is wrong before it.
-use Rattle.std.specs.Prelude.{◌≡◌, ℕ, ◌+◌, ◌*◌, ◌<◌, ◌≤◌, Bool, true, false, List, length, Some, None, Option}
+use Rattle.std.specs.Prelude.{◌≡◌, ℕ, ◌+◌, ◌*◌, ◌<◌, ◌≤◌, true, List, length, Some, None, Option}
 use Rattle.game.specs.Below.{rank, bit}
 use Rattle.game.specs.Refusals as refusals
 use Rattle.game.specs.Refusals.{Told}
-use Rattle.game.specs.declared.refusal.Fault.{Fault}
 use Rattle.game.specs.declared.refusal.Layer.{Layer}
 use Rattle.game.specs.declared.refusal.Layer.TheVariants.{Set, Row, Record}
-use Rattle.layout.specs.Reading.{at, map_bit, group_place, sets_end, row_sets, row_place, states_in, GoodGroup, GoodSet, GoodSupport, GoodRow}
+use Rattle.layout.specs.Reading.{at, map_bit, group_place, sets_end, row_sets, row_place, states_in, GoodGroup, GoodSupport, GoodRow}
 
 -- a fault by its number, its place, its layer and its state
 abbrev pub fault : ℕ → ℕ → Layer → Option ℕ → Told

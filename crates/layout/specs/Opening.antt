@@ -1,5 +1,5 @@
 -- What opening a table on bytes does, and the game that a table shows before its first opening.
-use Rattle.std.specs.Prelude.{◌≡◌, ℕ, Bool, cond, ◌&&◌, List, [], ◌∷◌, ◌==◌}
+use Rattle.std.specs.Prelude.{ℕ, cond, ◌&&◌, List, [], ◌∷◌, ◌==◌}
 use Rattle.game.specs.Games.{Game, Same}
 use Rattle.game.specs.Refusals.{Told}
 use Rattle.layout.specs.Writing.{Records}

@@ -1,8 +1,8 @@
 -- A play from a sure state, guided by the moves handed out, arrives.
-use Rattle.std.proofs.Common.{◌≡◌, ℕ, zero, suc, ◌+◌, ◌<◌, ◌≤◌, Bool, true, false, ◌||◌, ◌⊎◌, List, Some, sym, refl, ap, ◌∙◌, subst, inl, inr, ⊎_elim, arith}
+use Rattle.std.proofs.Common.{◌≡◌, ℕ, suc, ◌+◌, ◌≤◌, true, false, ◌||◌, ◌⊎◌, List, Some, subst, inl, inr, ⊎_elim, arith}
 use Rattle.std.proofs.lemmas.Bool.{both_ways, cases_Bool, cases_lt, or_left, or_right}
 use Rattle.game.specs.declared.player.Player.TheVariants.{Two}
-use Rattle.theory.specs.Plays.{Arrives, Begin, begin_taken, taken, Rest, Play, rests, opened, Call, Answer, Step, commit_not_kept, commit_full, commits, settle_not_kept, settle_outside, settles, abandons, Played, begins, then, Follows, Guided, resting, begun, settled}
+use Rattle.theory.specs.Plays.{Arrives, Begin, begin_taken, taken, Rest, Play, Call, Answer, Step, commit_not_kept, commit_full, commits, settle_not_kept, settle_outside, settles, abandons, Played, begins, then, Follows, Guided, resting, settled}
 use Rattle.theory.specs.Positions.{Position, Keeps, Leads}
 use Rattle.theory.specs.Verdicts.{Sure, SureRank, SureMove}
 

@@ -1,9 +1,9 @@
 -- Lists of ranks, and what they say of layers: place s of such a list holds the rank of state s, if it has one.
-use Rattle.std.specs.Prelude.{◌≡◌, ℕ, ◌<◌, ◌≤◌, Bool, true, false, List, Some, None, Option, nat_le, slice_index_or}
+use Rattle.std.specs.Prelude.{◌≡◌, ℕ, ◌≤◌, Bool, true, false, List, Some, None, Option, nat_le, slice_index_or}
 use Rattle.game.specs.Below.{bit}
 use Rattle.game.specs.declared.mode.Mode.{Mode}
 use Rattle.theory.specs.Layers.{Enters}
-use Rattle.theory.specs.Positions.{Position, Target}
+use Rattle.theory.specs.Positions.{Position}
 use Rattle.theory.specs.Verdicts.{Forced, Sure, Touches, Level}
 use Rattle.theory.specs.Benches.{Rank, Handed}
 

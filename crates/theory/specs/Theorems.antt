@@ -9,7 +9,7 @@ use Rattle.theory.specs.Strategies.{Strategy, Forces, ForcedIn, KeptInReach}
 use Rattle.theory.specs.Computed.{sure_list, sure_rank, sure_set, outer_list, rounds, almost_list, almost_rank, almost_set, replies}
 use Rattle.theory.specs.Benches.{Bench, Step, Ran, Call as BenchCall, Answer as BenchAnswer}
 use Rattle.theory.specs.Laws.{BothReply, BenchLaw, VerdictLaw}
-use Rattle.theory.specs.Plays.{Arrives}
+use Rattle.theory.specs.Plays.{Call, Answer, Play, Played, Guided, resting}
 
 -- a state has a rank, or is in no layer
 abbrev pub SureDecided : Type 0
@@ -62,9 +62,9 @@ SureAlmost = (x : Position) → Playable x → (k s : ℕ) → Sure x k s → Al
 abbrev pub AlmostMoveSome : Type 0
 AlmostMoveSome = (x : Position) → Playable x → (s : ℕ) → Almost x s → (Target x s → ⊥) → (a : ℕ) × AlmostMove x s a
 
--- at every position plays from the moves handed out arrive
+-- A play begun at a state of rank r and played from the moves handed out has met the target once r rounds are settled.
 abbrev pub PlayArrives : Type 0
-PlayArrives = (x : Position) → Arrives x
+PlayArrives = (x : Position) → Playable x → (r s : ℕ) → SureRank x r s → (calls : List Call) (answers : List Answer) (p : Play) (run : Played x s calls answers p) → Guided run → r ≤ (resting p).rounds → (resting p).met ≡ true
 
 -- The computed verdicts are the verdicts. First sure: the states in the layers, the ranks, and the moves handed out.
 abbrev pub SureComputed : Type 0

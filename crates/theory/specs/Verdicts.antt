@@ -1,5 +1,5 @@
 -- What the verdicts are: sure, almost sure, the moves handed out, and the reply.
-use Rattle.std.specs.Prelude.{ℕ, zero, suc, ◌<◌, ◌⊎◌}
+use Rattle.std.specs.Prelude.{ℕ, zero, suc}
 use Rattle.game.specs.declared.player.Player.TheVariants.{One, Two}
 use Rattle.theory.specs.Layers.{Upto, Enters, Least}
 use Rattle.theory.specs.Positions.{Position, State, Keeps, Leads, Target}

@@ -1,4 +1,4 @@
-use Rattle.theory.proofs.Almost.{almost_means, almost_ranked, ranked_almost, almost_bound, almost_rank_one, almost_decided, almost_move_some, sure_almost}
+use Rattle.theory.proofs.Almost.{almost_means, ranked_almost, almost_bound, almost_rank_one, almost_decided, almost_move_some, sure_almost}
 use Rattle.theory.proofs.Rounds.{rounds_exist, rounds_unique, rounds_le}
 use Rattle.theory.proofs.almost_sure_states_mean_rules.Goals as goal
 

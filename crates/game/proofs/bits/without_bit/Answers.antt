@@ -1,4 +1,4 @@
-use Rattle.std.proofs.Common.{ℕ, ◌-◌, ◌<◌, sym, ap, ◌∙◌, arith}
+use Rattle.std.proofs.Common.{◌-◌, ◌<◌, sym, ap, ◌∙◌, arith}
 use Rattle.game.specs.Below.{bit}
 use Rattle.game.proofs.Below.{bit_in_byte}
 use Rattle.game.proofs.Digits.{shifted, bit_taken}
