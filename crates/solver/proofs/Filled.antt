@@ -1,5 +1,5 @@
 -- Lists filled with one value.
-use Rattle.std.proofs.Common.{◌≡◌, ℕ, length, get_or, replicate, ⊎_elim, arith}
+use Rattle.std.proofs.Common.{◌≡◌, ℕ, get_or, replicate, ⊎_elim, arith}
 use Rattle.std.proofs.lemmas.List.{get_or_past, get_or-replicate, length-replicate}
 use Rattle.std.proofs.lemmas.Bool.{cases_lt}
 

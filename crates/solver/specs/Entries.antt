@@ -1,5 +1,5 @@
 -- What the entries of a bench hold.
-use Rattle.std.specs.Prelude.{ℕ, Bool, true, false, List, None, slice_index_or, slice_set}
+use Rattle.std.specs.Prelude.{ℕ, Bool, false, List, None, slice_index_or, slice_set}
 use Rattle.game.specs.Games.{Game}
 use Rattle.game.specs.declared.mode.Mode.{Mode}
 use Rattle.game.specs.declared.mode.Mode.TheVariants.{Sure, Almost}

@@ -3,7 +3,7 @@ use Rattle.monitor.proofs.Products.{zeros}
 use Rattle.monitor.proofs.Monitor.one.Goals as goal
 
 pub invariant_of-result : goal.invariant_of-result
-invariant_of-result c = (lit≤ tt, (lit≤ tt, ((λ k h. omega (arith, zeros 256 k)), tt)))
+invariant_of-result c = record { some = lit≤ tt; few = lit≤ tt; entries = λ k h. omega (arith, zeros 256 k) }
 
 pub returns : goal.returns
 returns c = record { states = refl; table = zeros 256 }

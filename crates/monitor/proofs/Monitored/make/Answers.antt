@@ -7,7 +7,7 @@ use Rattle.monitor.proofs.Monitored.make.Goals as goal
 pub invariant_of-self : goal.invariant_of-self
 invariant_of-self g c =
     let a = c.in_ok-judge.ensures in
-    (a.some, (a.few, ((λ k _. omega (arith, c.copied.ensures k, entry_below c.args.m c.args.table.now a.some a.entries k)), tt)))
+    record { some = a.some; few = a.few; entries = λ k _. omega (arith, c.copied.ensures k, entry_below c.args.m c.args.table.now a.some a.entries k) }
 
 pub returns : goal.returns
 returns g c =

@@ -1,4 +1,4 @@
-use Rattle.std.proofs.Common.{◌≡◌, ◌+◌, ◌<◌, ◌≤◌, get_or, sym, ap, ◌∙◌, add-zero, arith}
+use Rattle.std.proofs.Common.{◌<◌, get_or, sym, ap, ◌∙◌, add-zero, arith}
 use Rattle.game.specs.declared.player.Player.TheVariants.{One, Two}
 use Rattle.layout.specs.Reading.{states_in}
 use Rattle.layout.proofs.Ready.{states_few, row_inside, moves_noted, moves_outside}

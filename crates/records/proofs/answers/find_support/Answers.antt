@@ -1,4 +1,4 @@
-use Rattle.std.proofs.Common.{◌≡◌, ℕ, ◌+◌, ◌*◌, ◌<◌, ◌≤◌, true, false, ◌&&◌, List, [], length, sym, ap, ◌∙◌, subst, ap₂, arith}
+use Rattle.std.proofs.Common.{◌≡◌, ℕ, ◌+◌, ◌*◌, ◌≤◌, true, false, ◌&&◌, List, [], length, sym, ap, ◌∙◌, subst, ap₂, arith}
 use Rattle.std.proofs.lemmas.Bool.{and_from, and_left, and_right, cond-true, cond-false}
 use Rattle.game.specs.Below.{rank, bit}
 use Rattle.game.specs.declared.player.Player.TheVariants.{One, Two}
@@ -44,8 +44,8 @@ bounds-table-state c =
     let e = subst (λ m. bit m c.args.a ≡ true) c.moves-first.ensures (sym c.if-not-has_bit.ensures) in
     omega (arith, states_few _ _ _ _ t.ready, moves_inside _ _ _ _ t.ready One c.args.state c.args.a e)
 
-pub overflow-add_support : goal.overflow-add_support
-overflow-add_support c =
+pub overflow_add-support : goal.overflow_add-support
+overflow_add-support c =
     let t = c.args.table.now in
     let e = subst (λ m. bit m c.args.a ≡ true) c.moves-first.ensures (sym c.if-not-has_bit.ensures) in
     let f = subst (λ m. bit m c.args.b ≡ true) c.moves-second.ensures (sym c.if-not-has_bit-2.ensures) in

@@ -1,7 +1,7 @@
-use Rattle.std.proofs.Common.{◌≡◌, ◌%◌, ◌^◌, ◌<◌, ◌≤◌, sym, ap, ◌∙◌, subst, arith}
+use Rattle.std.proofs.Common.{◌%◌, ◌≤◌, sym, ap, ◌∙◌, subst, arith}
 use lib.Count.{ones}
 use Rattle.std.proofs.lemmas.Nat.{one_shl}
-use Rattle.game.specs.Below.{rank, bit}
+use Rattle.game.specs.Below.{bit}
 use Rattle.game.proofs.Below.{rank_le}
 use Rattle.game.proofs.Digits.{ones_mod}
 use Rattle.records.proofs.members.count_bits_below.Goals as goal

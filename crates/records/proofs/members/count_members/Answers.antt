@@ -1,7 +1,7 @@
-use Rattle.std.proofs.Common.{◌≡◌, ◌+◌, ◌*◌, ◌<◌, ◌≤◌, true, length, get_or, sym, ap, ◌∙◌, subst, arith}
+use Rattle.std.proofs.Common.{◌≡◌, ◌*◌, get_or, sym, ap, ◌∙◌, arith}
 use Rattle.game.specs.Below.{rank}
 use Rattle.game.proofs.Below.{rank_zero, rank_le}
-use Rattle.layout.specs.Reading.{map_bit, in_set, set_at, moves_in}
+use Rattle.layout.specs.Reading.{in_set, set_at, moves_in}
 use Rattle.layout.proofs.Places.{group_place_first, group_place_yes, group_place_no}
 use Rattle.layout.proofs.Members.{group_before_end, count_yes, count_no}
 use Rattle.records.proofs.members.count_members.Goals as goal

@@ -1,8 +1,8 @@
-use Rattle.std.proofs.Common.{◌≡◌, ◌+◌, ◌*◌, ◌<◌, ◌≤◌, true, length, get_or, sym, ap, ◌∙◌, subst, arith}
+use Rattle.std.proofs.Common.{◌≡◌, ◌+◌, ◌*◌, get_or, sym, ap, ◌∙◌, arith}
 use Rattle.std.proofs.lemmas.List.{get_or_past}
 use Rattle.game.specs.Below.{below, rank, bit}
 use Rattle.game.proofs.Below.{rank_zero}
-use Rattle.layout.specs.Reading.{map_bit, in_set, set_at, moves_in}
+use Rattle.layout.specs.Reading.{in_set, set_at, moves_in}
 use Rattle.layout.proofs.Places.{group_place_first, group_place_yes, group_place_no}
 use Rattle.layout.proofs.Members.{group_before_end, count_yes, count_no, member_in_group}
 use Rattle.records.proofs.members.find_member.Goals as goal

@@ -1,4 +1,4 @@
-use Rattle.std.proofs.Common.{◌≡◌, ℕ, ◌+◌, ◌-◌, ◌<◌, ◌≤◌, List, length, get_or, take, drop, sym, refl, ap, ◌∙◌, subst, add-zero, arith, length-drop, ltb-false}
+use Rattle.std.proofs.Common.{◌≡◌, ℕ, ◌+◌, ◌-◌, List, length, get_or, take, drop, refl, ap, ◌∙◌, add-zero, arith, length-drop, ltb-false}
 use Rattle.std.proofs.lemmas.List.{take_rest, get_or-drop}
 use Rattle.layout.specs.Faults.{zero_first, zero_second}
 use Rattle.records.proofs.row.read_moves.Goals as goal

@@ -1,7 +1,6 @@
-use Rattle.std.proofs.Common.{◌≡◌, ◌<◌, true, length, get_or, sym, refl, ap, ◌∙◌, subst, arith}
+use Rattle.std.proofs.Common.{◌≡◌, ◌<◌, true, length, get_or, sym, ap, subst, arith}
 use Rattle.game.specs.Below.{bit}
 use Rattle.game.specs.declared.refusal.Layer.TheVariants.{Set}
-use Rattle.layout.specs.Reading.{group_place}
 use Rattle.layout.specs.Faults.{outside, fault}
 use Rattle.records.proofs.set.read_group.Goals as goal
 

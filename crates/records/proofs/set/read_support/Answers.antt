@@ -1,7 +1,5 @@
-use Rattle.std.proofs.Common.{◌≡◌, ◌+◌, ◌<◌, ◌≤◌, sym, refl, ap, ◌∙◌, subst, arith}
+use Rattle.std.proofs.Common.{refl, arith}
 use Rattle.std.proofs.lemmas.Result.{err_from_is_err_and}
-use Rattle.game.specs.Below.{rank}
-use Rattle.layout.specs.Reading.{map_bit}
 use Rattle.layout.specs.Faults.{bad_set, no_member}
 use Rattle.layout.proofs.Places.{set_end_rank}
 use Rattle.records.proofs.set.read_support.Goals as goal

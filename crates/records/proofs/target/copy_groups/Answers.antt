@@ -1,4 +1,4 @@
-use Rattle.std.proofs.Common.{◌≡◌, ℕ, ◌+◌, ◌<◌, ◌≤◌, ◌≢◌, length, get_or, set, replicate, sym, refl, ap, ◌∙◌, subst, ⊎_elim, arith, get_or-set_other, get_or-set_same, below_more}
+use Rattle.std.proofs.Common.{◌≡◌, ℕ, ◌+◌, ◌<◌, ◌≢◌, length, get_or, set, replicate, sym, refl, ap, ◌∙◌, ⊎_elim, arith, get_or-set_other, get_or-set_same, below_more}
 use Rattle.std.proofs.lemmas.List.{get_or_past, get_or-replicate, length-set}
 use Rattle.std.proofs.lemmas.Bool.{cases_lt, cond-true, cond-false}
 use Rattle.layout.specs.Reading.{map_bit}
@@ -32,7 +32,7 @@ loop-group-preserved c =
           let e = sym w.if-has_group.ensures in
           let byte = get_or bs c.loop-group.place 0 in
           let room : n < length old = omega (arith, inv.1, c.loop-group-test.true) in
-          let is : c.if-has_group.groups ≡ set old n byte = w.groups_is in (
+          let is : c.if-has_group.groups ≡ set old n byte = w.groups-is in (
             w.place-is ∙ ap (λ k. k + 1) inv.0 ∙ sym (group_place_yes bs p n e),
             ap length is ∙ length-set old n byte ∙ inv.1,
             below_more _ n
@@ -42,7 +42,7 @@ loop-group-preserved c =
           )
       | else-has_group w ↦
           let e = sym w.if-has_group.ensures in
-          let is : c.if-has_group.groups ≡ old = w.groups_is in (
+          let is : c.if-has_group.groups ≡ old = w.groups-is in (
             w.place-is ∙ inv.0 ∙ sym (group_place_no bs p n e),
             ap length is ∙ inv.1,
             below_more _ n (λ g l. ap (λ xs. get_or xs g 0) is ∙ inv.2 g l) (ap (λ xs. get_or xs n 0) is ∙ inv.3 n (omega arith) ∙ sym (cond-false (map_bit bs p n) _ 0 e)),

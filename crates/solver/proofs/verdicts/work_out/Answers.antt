@@ -19,10 +19,10 @@ loop-state-preserved g c =
     let found = c.almost_sure_states-almost.result in
     held_more {old = c.args.entries.now.at} {ranks = c.levels-sure.result.at} {levels = found.levels.at} {stay = found.outer.stay} c.sure_verdict-first.result c.almost_verdict-second.result room c.loop-state.invariant
     (record {
-      sure-rank = c.sure_verdict-first.ensures.rank;
-      sure-moves = c.sure_verdict-first.ensures.moves;
-      almost-rank = c.almost_verdict-second.ensures.rank;
-      almost-moves = c.almost_verdict-second.ensures.moves;
+      sure_rank = c.sure_verdict-first.ensures.rank;
+      sure_moves = c.sure_verdict-first.ensures.moves;
+      almost_rank = c.almost_verdict-second.ensures.rank;
+      almost_moves = c.almost_verdict-second.ensures.moves;
     })
     c.set_verdicts.ensures
 

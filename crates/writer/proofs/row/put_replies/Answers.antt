@@ -11,9 +11,9 @@ use Rattle.writer.proofs.row.put_replies.Goals.{then-has_bit, else-has_bit}
 pub loop-b-init : goal.loop-b-init
 loop-b-init g c = rw joined_none (puts_none c.args.buffer.now c.args.at)
 
-pub put-set_end-requires : goal.put-set_end-requires
+pub put_set-end-requires : goal.put_set-end-requires
 unfolding replies
-put-set_end-requires g c =
+put_set-end-requires g c =
     let game = g.S.Source.game c.args.source.now in
     let s = c.args.state in
     let a = c.args.a in
@@ -33,7 +33,7 @@ loop-b-preserved g c =
     elim c.if-has_bit.branch [
       | then-has_bit w ↦
           let yes : q b ≡ true = move_test {chosen = game.choices Two s} b c.moves-moves.ensures c.has_bit.ensures w.if-has_bit.true in
-          let one = puts_same w.put-set_end.ensures (sym (support_is game s a b w.gather.result w.gather.ensures)) refl refl in
+          let one = puts_same w.put_set-end.ensures (sym (support_is game s a b w.gather.result w.gather.ensures)) refl refl in
           puts_same (piece_put f q 8 b c.requires c.loop-b.invariant c.loop-b-test.true yes one) refl w.buffer-is w.end-is
       | else-has_bit w ↦
           let none : q b ≡ false = move_test {chosen = game.choices Two s} b c.moves-moves.ensures c.has_bit.ensures w.if-has_bit.false in

@@ -24,8 +24,8 @@ put_replies-end-requires g c =
     let game = g.S.Source.game c.args.source.now in
     let s = c.args.state in
     let a = c.loop-a.a in
-    let yes : bit (game.choices One s) a ≡ true = move_test {chosen = game.choices One s} a c.moves_moves.ensures c.has_bit.ensures c.if-has_bit.true in
-    omega (arith, piece_fits (replies game s) (bit (game.choices One s)) 8 a (row_room game s c.args.buffer.now c.args.at c.moves_moves.result c.moves.result c.requires) c.loop-a.invariant c.loop-a-test.true yes)
+    let yes : bit (game.choices One s) a ≡ true = move_test {chosen = game.choices One s} a c.moves-moves.ensures c.has_bit.ensures c.if-has_bit.true in
+    omega (arith, piece_fits (replies game s) (bit (game.choices One s)) 8 a (row_room game s c.args.buffer.now c.args.at c.moves-moves.result c.moves.result c.requires) c.loop-a.invariant c.loop-a-test.true yes)
 
 pub loop-a-preserved : goal.loop-a-preserved
 loop-a-preserved g c =
@@ -36,10 +36,10 @@ loop-a-preserved g c =
     let q = bit (game.choices One s) in
     elim c.if-has_bit.branch [
       | then-has_bit w ↦
-          let yes : q a ≡ true = move_test {chosen = game.choices One s} a c.moves_moves.ensures c.has_bit.ensures w.if-has_bit.true in
-          puts_same (piece_put f q 8 a (row_room game s c.args.buffer.now c.args.at c.moves_moves.result c.moves.result c.requires) c.loop-a.invariant c.loop-a-test.true yes w.put_replies-end.ensures) refl w.buffer-is w.end-is
+          let yes : q a ≡ true = move_test {chosen = game.choices One s} a c.moves-moves.ensures c.has_bit.ensures w.if-has_bit.true in
+          puts_same (piece_put f q 8 a (row_room game s c.args.buffer.now c.args.at c.moves-moves.result c.moves.result c.requires) c.loop-a.invariant c.loop-a-test.true yes w.put_replies-end.ensures) refl w.buffer-is w.end-is
       | else-has_bit w ↦
-          let none : q a ≡ false = move_test {chosen = game.choices One s} a c.moves_moves.ensures c.has_bit.ensures w.if-has_bit.false in
+          let none : q a ≡ false = move_test {chosen = game.choices One s} a c.moves-moves.ensures c.has_bit.ensures w.if-has_bit.false in
           puts_same (no_piece f q a c.loop-a.invariant none) refl w.buffer-is w.end-is
     ]
 
@@ -47,4 +47,4 @@ pub returns : goal.returns
 returns g c =
     let game = g.S.Source.game c.args.source.now in
     let all : c.loop-a.a ≡ 8 = omega arith in
-    row_put game c.args.state c.args.buffer.now c.args.at c.moves_moves.result c.moves.result c.requires {new = c.loop-a.buffer} c.moves_moves.ensures c.moves.ensures (rw all at c.loop-a.invariant)
+    row_put game c.args.state c.args.buffer.now c.args.at c.moves-moves.result c.moves.result c.requires {new = c.loop-a.buffer} c.moves-moves.ensures c.moves.ensures (rw all at c.loop-a.invariant)

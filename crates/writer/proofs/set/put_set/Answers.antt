@@ -27,16 +27,16 @@ loop-group-init c = rw groups_none (puts_none c.loop-j.buffer (c.args.at + 4))
 
 pub bounds-buffer-end : goal.bounds-buffer-end
 bounds-buffer-end c =
-    omega (arith, groups_room c.args.groups.now c.loop-group.group_index c.loop-group-test.true c.if-group-gt0.true)
+    omega (arith, groups_room c.args.groups.now c.loop-group.group-index c.loop-group-test.true c.if-group-gt0.true)
 
 pub overflow_add-end-then-group-gt0 : goal.overflow_add-end-then-group-gt0
 overflow_add-end-then-group-gt0 c =
-    omega (arith, groups_room c.args.groups.now c.loop-group.group_index c.loop-group-test.true c.if-group-gt0.true)
+    omega (arith, groups_room c.args.groups.now c.loop-group.group-index c.loop-group-test.true c.if-group-gt0.true)
 
 pub loop-group-preserved : goal.loop-group-preserved
 loop-group-preserved c =
     let gs = c.args.groups.now in
-    let n = c.loop-group.group_index in
+    let n = c.loop-group.group-index in
     elim c.if-group-gt0.branch [
       | then-group-gt0 w ↦
           let room = groups_room gs n c.loop-group-test.true w.if-group-gt0.true in
@@ -50,7 +50,7 @@ returns c =
     let size = length_packed gs in
     let four : length (take 4 (packed gs)) ≡ 4 = length-take-le 4 (packed gs) (omega arith) in
     let map_done : c.loop-j.j ≡ 4 = omega arith in
-    let done : c.loop-group.group_index ≡ 32 = omega arith in
+    let done : c.loop-group.group-index ≡ 32 = omega arith in
     let first : Puts c.args.buffer.now c.args.at (take 4 (packed gs)) c.loop-j.buffer (c.args.at + 4) = record { bytes = rw map_done at c.loop-j.invariant; after = omega arith } in
     let rest : Puts c.loop-j.buffer (c.args.at + 4) (groups_in gs 32) c.loop-group.buffer c.loop-group.end = rw done at c.loop-group.invariant in
     puts_same (puts_more first rest (omega arith)) (sym (packed_split gs)) refl refl

@@ -8,12 +8,12 @@ pub loop-group-init : goal.loop-group-init
 loop-group-init c = omega (arith, groups_le c.args.groups.now 0)
 
 pub overflow_add-length : goal.overflow_add-length
-overflow_add-length c = omega (arith, groups_le c.args.groups.now c.loop-group.group_index)
+overflow_add-length c = omega (arith, groups_le c.args.groups.now c.loop-group.group-index)
 
 pub loop-group-preserved : goal.loop-group-preserved
 loop-group-preserved c =
     let gs = c.args.groups.now in
-    let n = c.loop-group.group_index in
+    let n = c.loop-group.group-index in
     elim c.if-group-gt0.branch [
       | then-group-gt0 w ↦ omega (arith, w.length-is, length_groups_yes gs n w.if-group-gt0.true)
       | else-group-gt0 w ↦ omega (arith, w.length-is, ap length (groups_no gs n w.if-group-gt0.false))
@@ -21,5 +21,5 @@ loop-group-preserved c =
 
 pub returns : goal.returns
 returns c =
-    let all : c.loop-group.group_index ≡ 32 = omega arith in
+    let all : c.loop-group.group-index ≡ 32 = omega arith in
     omega (arith, ap (λ n. length (groups_in c.args.groups.now n)) all, length_packed c.args.groups.now)

@@ -1,4 +1,4 @@
-use Rattle.std.proofs.Common.{◌≡◌, ◌%◌, sym, ◌∙◌}
+use Rattle.std.proofs.Common.{◌%◌, sym, ◌∙◌}
 use Rattle.game.proofs.Below.{bit_zero}
 use Rattle.layout.proofs.Sets.{elem_below, elem_past}
 use Rattle.records.proofs.target.StateSet.group_of.Goals as goal
