@@ -4,4 +4,4 @@ use Rattle.known.proofs.OneState.{one_state_cases}
 use Rattle.known.proofs.known_cases.Goals as goal
 
 pub returns : goal.returns
-returns c = record { games = known; only-move = one_move; records = one_state_cases }
+returns c = record { games = known; only_move = one_move; records = one_state_cases }
