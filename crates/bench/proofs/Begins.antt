@@ -1,5 +1,5 @@
 -- How a play begins.
-use Rattle.std.proofs.Common.{◌≡◌, ℕ, ◌<◌, Bool, true, Some, None, sym}
+use Rattle.std.proofs.Common.{◌≡◌, ℕ, ◌<◌, Bool, true, Some, None}
 use Rattle.game.specs.Games.{Game}
 use Rattle.game.specs.Refusals.{Told}
 use Rattle.solver.specs.Entries.{target_in}

@@ -1,9 +1,9 @@
 -- Edits of entries, as steps of the bench.
-use Rattle.std.proofs.Common.{◌≡◌, ℕ, ◌<◌, ◌≤◌, Bool, true, false, cond, not, eqb, ltb, ◌⊎◌, List, length, get_or, set, Ok, Err, sym, refl, ap, ◌∙◌, subst, inl, inr, ⊎_elim, arith, get_or-set_other, get_or-set_same}
+use Rattle.std.proofs.Common.{◌≡◌, ℕ, ◌<◌, ◌≤◌, Bool, true, false, cond, not, eqb, ◌⊎◌, List, length, set, Ok, Err, sym, refl, ap, ◌∙◌, subst, inl, inr, ⊎_elim, arith, get_or-set_other, get_or-set_same}
 use mathlib.Core.Bool.{beq}
 use mathlib.Core.Path.{fun_ext}
 use Rattle.std.proofs.lemmas.List.{get_or_past}
-use Rattle.std.proofs.lemmas.Bool.{cases_lt, false≢true, both_ways, cases_Bool, cases_eq, eq-eqb, ne_eqb, eqb-true, cond-true, cond-false}
+use Rattle.std.proofs.lemmas.Bool.{cases_lt, false≢true, both_ways, cases_eq, eq-eqb, ne_eqb, cond-true, cond-false}
 use Rattle.game.specs.Below.{bit}
 use Rattle.game.specs.Games.{Game, WellFormed}
 use Rattle.game.specs.declared.player.Player.{Player}
@@ -11,7 +11,7 @@ use Rattle.game.specs.declared.player.Player.TheVariants.{One, Two}
 use Rattle.game.specs.Refusals.{Told, told, bare, with_value}
 use Rattle.game.specs.declared.refusal.Refusal.{Refusal}
 use Rattle.theory.specs.Benches.{Bench as Held, opened, position as at_game, with_state, MoveSet, Call, Refuses, no_state, bar_no_move, allow_no_move, marked_already, unmarked_already, Step, refuses, mark, unmark, marks, unmarks, bars, allows, done, bar, allow}
-use Rattle.solver.specs.Entries.{entry, blank, kept_of, kept_in, target_in, verdict_in, keeping, with_kept, with_target}
+use Rattle.solver.specs.Entries.{entry, blank, kept_of, kept_in, target_in, keeping, with_kept, with_target}
 use Rattle.solver.specs.declared.entries.Entry.{Entry}
 use Rattle.bench.specs.Answers.{target_call}
 use Rattle.bench.specs.Held.{held, Sound, Edit, NoMoveThere}

@@ -1,5 +1,5 @@
 -- What solve leaves.
-use Rattle.std.proofs.Common.{◌≡◌, ℕ, ◌<◌, Bool, true, List, sym, refl, subst}
+use Rattle.std.proofs.Common.{◌≡◌, ℕ, ◌<◌, Bool, true, sym, refl, subst}
 use mathlib.Core.Path.{fun_ext}
 use Rattle.game.specs.Games.{Game}
 use Rattle.game.specs.declared.mode.Mode.{Mode}

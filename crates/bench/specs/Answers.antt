@@ -1,9 +1,8 @@
 -- What the calls of a bench answer.
-use Rattle.std.specs.Prelude.{◌≡◌, ℕ, ◌<◌, ◌≤◌, Bool, true, false, cond, List, Some, None, Ok, Err, Option, Result}
-use Rattle.game.specs.Refusals.{Told, told, bare, with_value}
+use Rattle.std.specs.Prelude.{ℕ, Bool, true, false, Some, None, Ok, Err, Option, Result}
+use Rattle.game.specs.Refusals.{told}
 use Rattle.game.specs.declared.refusal.Refusal.{Refusal}
-use Rattle.game.specs.declared.player.Player.{Player}
-use Rattle.theory.specs.Benches.{Call, mark, unmark, bar, allow, Answer, done, refused, ranked, not_winning, set, replied}
+use Rattle.theory.specs.Benches.{Call, mark, unmark, Answer, done, refused, ranked, not_winning, set, replied}
 use Rattle.bench.specs.declared.bench.Reply.{Reply}
 
 -- a state is put into the target, or taken out; a move is allowed, or barred

@@ -1,5 +1,5 @@
 -- What a bench holds, and what its calls leave.
-use Rattle.std.specs.Prelude.{◌≡◌, ℕ, ◌<◌, ◌≤◌, Bool, true, false, List, Some, None, Ok, Err, Result}
+use Rattle.std.specs.Prelude.{◌≡◌, ℕ, ◌<◌, ◌≤◌, true, false, List, Some, None, Ok, Err, Result}
 use Rattle.game.specs.Below.{bit}
 use Rattle.game.specs.Games.{Game}
 use Rattle.game.specs.Refusals.{Told, bare, with_value}

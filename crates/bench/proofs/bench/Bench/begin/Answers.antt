@@ -1,4 +1,3 @@
-use Rattle.std.proofs.Common.{sym, refl, ap, ◌∙◌}
 use Rattle.std.proofs.lemmas.Result.{err_from_is_err_and}
 use Rattle.bench.proofs.Begins.{not_begun, begun_here}
 use Rattle.bench.proofs.bench.Bench.begin.Goals as goal

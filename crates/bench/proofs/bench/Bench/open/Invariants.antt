@@ -1,6 +1,6 @@
-use Rattle.std.proofs.Common.{◌≡◌, ℕ, ◌<◌, ◌≤◌, false}
+use Rattle.std.proofs.Common.{◌≡◌, ℕ, ◌<◌, false}
 use Rattle.game.specs.declared.player.Player.{Player}
-use Rattle.solver.specs.Entries.{blank, entry, kept_in, target_in}
+use Rattle.solver.specs.Entries.{kept_in, target_in}
 use Rattle.bench.proofs.bench.Bench.open.Given as goal
 
 -- the states so far keep all moves of the game, and no state is in the target

@@ -1,4 +1,4 @@
-use Rattle.std.proofs.Common.{◌≡◌, sym, refl, ap, ◌∙◌}
+use Rattle.std.proofs.Common.{sym, ◌∙◌}
 use Rattle.std.proofs.lemmas.Result.{err_from_is_err_and}
 use Rattle.game.specs.declared.refusal.Refusal.TheVariants.{AlreadySo}
 use Rattle.bench.proofs.Edits.{edit_refused, target_edit, target_no_state, target_already, same_truth, other_truth}
