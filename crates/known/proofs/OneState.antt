@@ -1,10 +1,10 @@
 -- The damaged forms of the record of one state: nothing is wrong before the last byte of its support.
-use Rattle.std.proofs.Common.{◌≡◌, ℕ, ◌<◌, ◌≤◌, true, List, [], ◌∷◌, length, Some, refl, arith}
+use Rattle.std.proofs.Common.{ℕ, ◌≤◌, List, [], ◌∷◌, length, Some, refl, arith}
 use Rattle.game.specs.Below.{below}
 use Rattle.game.specs.Refusals.{Told}
 use Rattle.game.specs.declared.refusal.Layer.TheVariants.{Set}
 use Rattle.layout.specs.Faults.{fault, BadGroup, missing, zero_byte, outside, BadRecord, bad_group, bad_set, bad_support, bad_row}
-use Rattle.layout.specs.Reading.{at, map_bit, group_place, set_end, sets_end, moves_in, row_sets, row_end, row_place}
+use Rattle.layout.specs.Reading.{map_bit, group_place, sets_end, moves_in, row_sets, row_place}
 use Rattle.layout.proofs.Opens.{one_state_record}
 use Rattle.known.specs.Cases.{OneStateRecord}
 

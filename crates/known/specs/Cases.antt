@@ -1,5 +1,5 @@
 -- Cases of which the outcome is known beforehand, shown of the definitions.
-use Rattle.std.specs.Prelude.{ℕ, false, List, [], ◌∷◌, Some}
+use Rattle.std.specs.Prelude.{false, [], ◌∷◌, Some}
 use Rattle.game.specs.declared.refusal.Layer.TheVariants.{Set}
 use Rattle.game.specs.Refusals.{bare}
 use Rattle.game.specs.declared.player.Player.TheVariants.{Two}

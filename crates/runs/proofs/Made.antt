@@ -1,5 +1,5 @@
 -- A list of calls on a new bench, as far as it was made.
-use Rattle.std.proofs.Common.{◌≡◌, ℕ, ◌+◌, ◌<◌, ◌≤◌, List, [], length, get_or, take, drop, set, sym, refl, ap, ◌∙◌, subst, arith}
+use Rattle.std.proofs.Common.{◌≡◌, ℕ, ◌+◌, ◌<◌, ◌≤◌, List, [], length, get_or, take, drop, set, sym, refl, ◌∙◌, subst, arith}
 use Rattle.std.proofs.lemmas.List.{drop-set-lt, length-set, take_all}
 use Rattle.game.specs.Games.{Game, WellFormed}
 use Rattle.theory.specs.Benches.{Ran, begins, then, Step, opened, position}
