@@ -1,7 +1,7 @@
 // The bench and its calls.
-ghost use Rattle.std.specs.Prelude.{◌≡◌, ℕ, ◌<◌, ◌≤◌, true, false, not, length, is_some, MatchOption, MatchResult};
+ghost use Rattle.std.specs.Prelude.{◌≡◌, ◌<◌, ◌≤◌, true, false, is_some, MatchOption, MatchResult};
 ghost use Rattle.game.specs.Below.{bit};
-ghost use Rattle.game.specs.Refusals.{told, bare, with_value};
+ghost use Rattle.game.specs.Refusals.{told, with_value};
 ghost use Rattle.theory.specs.Benches.{opened, mark as to_mark, unmark as to_unmark, bar as to_bar, allow as to_allow, verdict as to_verdict, moves as to_moves, reply as to_reply, solve as to_solve, told as told_counts, Step};
 ghost use Rattle.solver.specs.Entries.{kept_in, verdict_in, position_of, with_kept, with_target};
 ghost use Rattle.bench.specs.Answers.{target_call, judged, handed, countered};

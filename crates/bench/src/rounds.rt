@@ -1,7 +1,7 @@
 // The calls of a play: begin, commit, settle and abandon.
 ghost use Rattle.std.specs.Prelude.{◌≡◌, true};
 ghost use Rattle.game.specs.Below.{elem};
-ghost use Rattle.theory.specs.Plays.{Begin, Step, rests, opened, commit as to_commit, settle as to_settle, abandon as to_abandon, taken};
+ghost use Rattle.theory.specs.Plays.{Begin, Step, rests, opened, commit as to_commit, settle as to_settle};
 ghost use Rattle.bench.specs.Held.{position};
 ghost use Rattle.bench.specs.Rounds.{rest_of, rest_in, begin_answer, begun_rest, commit_answer, after_commit, settle_answer, after_settle};
 

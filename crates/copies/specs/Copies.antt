@@ -1,5 +1,5 @@
 -- What comes of opening bytes and writing the game again.
-use Rattle.std.specs.Prelude.{◌≡◌, ℕ, zero, suc, ◌+◌, ◌*◌, ◌<◌, ◌≤◌, List, ◌++◌, length, drop, count_ones}
+use Rattle.std.specs.Prelude.{◌≡◌, ℕ, zero, suc, ◌+◌, ◌*◌, ◌<◌, List, ◌++◌, length, drop, count_ones}
 use Rattle.game.specs.Games.{Game}
 use Rattle.game.specs.Refusals.{Told, bare}
 use Rattle.game.specs.declared.player.Player.TheVariants.{One, Two}

@@ -1,5 +1,5 @@
 // Reading a table record: the number of states less one, and then the rows.
-ghost use Rattle.std.specs.Prelude.{◌≡◌, ◌+◌, ◌<◌, ◌≤◌, length, MatchResult};
+ghost use Rattle.std.specs.Prelude.{◌+◌, ◌<◌, MatchResult};
 ghost use Rattle.game.specs.Refusals.{told};
 ghost use Rattle.layout.specs.Reading.{states_in, Bytes, GoodRecord};
 ghost use Rattle.layout.specs.Faults.{BadRecord};

@@ -1,5 +1,5 @@
 // A list of calls on a new bench.
-ghost use Rattle.std.specs.Prelude.{◌≡◌, ◌≤◌, length, MatchResult};
+ghost use Rattle.std.specs.Prelude.{◌≡◌, MatchResult};
 ghost use Rattle.game.specs.Refusals.{told};
 ghost use Rattle.theory.specs.Benches.{Step};
 ghost use Rattle.bench.specs.Answers.{edited as edit_answer};

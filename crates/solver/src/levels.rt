@@ -1,5 +1,5 @@
 // Ranks, worked out level by level.
-ghost use Rattle.std.specs.Prelude.{◌≡◌, ℕ, ◌+◌, ◌<◌, true, false, List, length};
+ghost use Rattle.std.specs.Prelude.{◌≡◌, ℕ, ◌+◌, ◌<◌, true, false, length};
 ghost use Rattle.theory.specs.Laws.{Exactly};
 ghost use Rattle.theory.specs.Layers.{Enters};
 ghost use Rattle.theory.specs.Positions.{Playable};

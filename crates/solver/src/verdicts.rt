@@ -1,5 +1,5 @@
 // All verdicts of a bench, worked out from its source, its kept moves and its target.
-ghost use Rattle.std.specs.Prelude.{◌≡◌, ℕ, ◌<◌, ◌≤◌, true, false, if◌then◌else◌, slice_index};
+ghost use Rattle.std.specs.Prelude.{◌≡◌, ℕ, ◌<◌, true, if◌then◌else◌, slice_index};
 ghost use Rattle.game.specs.Below.{bit, rank};
 ghost use Rattle.game.specs.declared.mode.Mode.{Mode};
 ghost use Rattle.game.specs.declared.player.Player.{Player};
@@ -8,7 +8,7 @@ ghost use Rattle.theory.specs.Laws.{Exactly};
 ghost use Rattle.theory.specs.Positions.{Playable};
 ghost use Rattle.theory.specs.Ranking.{rank_at, up_to, RankSays, MovesSay};
 ghost use Rattle.theory.specs.Verdicts.{SureRank, AlmostRank, OuterRounds};
-ghost use Rattle.solver.specs.Entries.{entry, kept_in, target_in, verdict_in, position_of};
+ghost use Rattle.solver.specs.Entries.{kept_in, target_in, verdict_in, position_of};
 ghost use Rattle.solver.specs.Moves.{LowerMove};
 
 use crate::entries::{Entries, Verdict};

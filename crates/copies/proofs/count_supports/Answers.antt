@@ -1,4 +1,4 @@
-use Rattle.std.proofs.Common.{◌≡◌, ℕ, ◌+◌, ◌*◌, ◌<◌, ◌≤◌, sym, ap, ◌∙◌, ap₂, add-one, arith}
+use Rattle.std.proofs.Common.{ℕ, ◌+◌, ◌*◌, ◌<◌, ◌≤◌, sym, ap, ◌∙◌, ap₂, add-one, arith}
 use lib.Count.{ones, ones-le}
 use Rattle.std.proofs.lemmas.Nat.{mul-le}
 use Rattle.copies.specs.Copies.{supports_below}
