@@ -1,9 +1,10 @@
 -- Laws of `below`, `rank` and `bit`, and of ascending lists.
-use Rattle.std.proofs.Common.{◌≡◌, ℕ, zero, suc, ◌+◌, ◌-◌, ◌^◌, ◌<◌, ◌≤◌, Bool, true, false, List, [], ◌∷◌, ◌++◌, map, length, get_or, refl, ap, ◌∙◌, ⊎_elim, le_refl, add-zero, add_assoc, eq-zero-or-pos, add-one, arith, pow_mono}
-use native.Mathlib.Nat.{div-eq_of_lt, zero-div}
+use Rattle.std.proofs.Common.{◌≡◌, ℕ, zero, suc, ◌+◌, ◌-◌, ◌^◌, ◌<◌, ◌≤◌, Bool, true, false, List, [], ◌∷◌, ◌++◌, map, length, get_or, refl, ap, ◌∙◌, ⊎_elim, le_refl, add-zero, add_assoc, add-one, arith, cond, ◌&&◌}
+use native.Mathlib.Nat.{zero-div}
 use native.Mathlib.Numerals.{lt-add-one}
+use Rattle.std.proofs.lemmas.Nat.Bits.{bit_at_above}
 use Rattle.std.proofs.lemmas.List.{append-nil, append_assoc, length-append, length_push, map_push, get_or_append_left, get_or_push}
-use Rattle.std.proofs.lemmas.Bool.{cases_Bool, cases_lt, both_ways}
+use Rattle.std.proofs.lemmas.Bool.{cases_Bool, cases_lt}
 use Rattle.game.specs.Below.{below, rank, bit}
 use Rattle.game.specs.Games.{Ascends}
 
@@ -34,12 +35,9 @@ below_none p (suc n) h = rw (below_none p n (λ k l. h k (omega arith)), h n (om
 pub below_add : (p : ℕ → Bool) (m n : ℕ) → below p (m + n) ≡ below p m ++ map (λ k. m + k) (below (λ k. p (m + k)) n)
 below_add p m zero = rw (add-zero, below_zero, append-nil)
 below_add p m (suc n) =
-    let ih = below_add p m n in
+    let q : ℕ → Bool = λ k. p (m + k) in
     rw (← (add-one n), ← (add_assoc m n 1)) (
-    ⊎_elim
-    (λ e. rw (below_yes p (m + n) e, ih, below_yes (λ k. p (m + k)) n e, map_push, append_assoc))
-    (λ e. rw (below_no p (m + n) e, below_no (λ k. p (m + k)) n e) ih)
-    (cases_Bool (p (m + n))))
+    grind (arith, below_add p m n, below_yes p (m + n), below_no p (m + n), below_yes q n, below_no q n, map_push (λ k. m + k) (below q n) n, append_assoc (below p m) (map (λ k. m + k) (below q n)) ((m + n) ∷ [])))
 
 -- the numbers below m stand in front of those from m on
 pub below_front : (p : ℕ → Bool) (m n : ℕ) → m ≤ n → (ys : List ℕ) × (below p n ≡ below p m ++ ys)
@@ -72,8 +70,7 @@ rank_lt p m n h e = let l = rank_mono p (m + 1) n (omega arith) in omega (arith,
 pub rank_le : (p : ℕ → Bool) (n : ℕ) → rank p n ≤ n
 rank_le p zero = omega (arith, rank_zero p)
 rank_le p (suc n) =
-    let ih = rank_le p n in
-    rw (← (add-one n)) (⊎_elim (λ e. omega (arith, rank_yes p n e)) (λ e. omega (arith, rank_no p n e)) (cases_Bool (p n)))
+    rw (← (add-one n)) (grind (arith, rank_le p n, rank_yes p n, rank_no p n))
 
 pub rank_all : (n : ℕ) → rank (λ _. true) n ≡ n
 rank_all zero = rank_zero (λ _. true)
@@ -93,11 +90,11 @@ get_or_below_all n k d h = rw (rank_all k) at (get_or_below (λ _. true) k n d h
 pub below_at : (p : ℕ → Bool) (n k d : ℕ) → k < rank p n → (get_or (below p n) k d < n) × (p (get_or (below p n) k d) ≡ true) × (rank p (get_or (below p n) k d) ≡ k)
 below_at p zero k d h = absurd (omega (arith, rank_zero p))
 below_at p (suc n) k d h =
+    let more : k < rank p (n + 1) = rw (add-one n) h in
     ⊎_elim
     (λ l. let r = below_at p n k d l in rw (get_or_below_more p n (suc n) k d (omega arith) l) (omega arith, r.1, r.2))
     (λ l.
-    let more : k < rank p (n + 1) = rw (add-one n) h in
-    let e : p n ≡ true = ⊎_elim (λ e. e) (λ e. absurd (omega (arith, rank_no p n e))) (cases_Bool (p n)) in
+    let e : p n ≡ true = grind (arith, rank_no p n) in
     let s : rank p n ≡ k = omega (arith, rank_yes p n e) in
     rw (← (add-one n), below_yes p n e, get_or_push (below p n) n d k s) (lt-add-one n, e, s))
     (cases_lt k (rank p n))
@@ -114,11 +111,8 @@ pub map_same : {A : Type 0} (f g : ℕ → A) (p : ℕ → Bool) (n : ℕ) → (
 map_same f g p zero h = rw (below_zero p)
 map_same f g p (suc n) h =
     let ih = map_same f g p n (λ k l. h k (omega arith)) in
-    rw (← (add-one n)) (
-    ⊎_elim
-    (λ e. rw (map_yes f p n e, map_yes g p n e, ih, h n (omega arith)))
-    (λ e. rw (map_no f p n e, map_no g p n e) ih)
-    (cases_Bool (p n)))
+    let last = h n (omega arith) in
+    rw (← (add-one n)) (grind (arith, map_yes f p n, map_yes g p n, map_no f p n, map_no g p n))
 
 -- a list that ascends below k, and k after it
 ascends_push : (m k n : ℕ) (xs : List ℕ) → m ≤ k → k < n → Ascends m k xs → Ascends m n (xs ++ k ∷ [])
@@ -131,9 +125,7 @@ ascends_within p zero n h = rw (below_zero p) tt
 ascends_within p (suc m) n h =
     rw (← (add-one m)) (
     ⊎_elim
-    (λ e.
-    let all = ascends_within p m m (λ k l _. l) in
-    rw (below_yes p m e) (ascends_push 0 m n (below p m) (omega arith) (h m (le_refl (suc m)) e) all))
+    (λ e. rw (below_yes p m e) (ascends_push 0 m n (below p m) (omega arith) (h m (le_refl (suc m)) e) (ascends_within p m m (λ k l _. l))))
     (λ e. rw (below_no p m e) (ascends_within p m n (λ k l. h k (omega arith))))
     (cases_Bool (p m)))
 
@@ -152,15 +144,19 @@ ascends_at m n (x ∷ xs) (suc k) h l = let rest = ascends_at (suc x) n xs k h.2
 
 -- a number below 2 ^ k has no bit from k on
 pub bit_past : (c k i : ℕ) → c < 2 ^ k → k ≤ i → bit c i ≡ false
-bit_past c k i h l = let small : c < 2 ^ i = omega (arith, pow_mono l) in rw (div-eq_of_lt small)
+bit_past c k i h l = rw (bit_at_above c k i h l)
 
 pub bit_zero : (i : ℕ) → bit 0 i ≡ false
 bit_zero i = rw zero-div
 
+-- the bits of a number that is kept or not
+pub bit_kept : (t : Bool) (c i : ℕ) → bit (cond t c 0) i ≡ (t && bit c i)
+bit_kept t c i = grind (arith, bit_zero i)
+
 -- a number that has a bit is not 0
 pub bit_some : (c i : ℕ) → bit c i ≡ true → 1 ≤ c
-bit_some c i e = ⊎_elim (λ z. absurd (both_ways (bit c i) (ap (λ n. bit n i) z ∙ bit_zero i) e)) (λ l. l) (eq-zero-or-pos c)
+bit_some c i e = grind (arith, bit_zero i)
 
 -- a bit of a byte is one of eight
 pub bit_in_byte : (c i : ℕ) → c < 256 → bit c i ≡ true → i < 8
-bit_in_byte c i h e = ⊎_elim (λ l. l) (λ l. absurd (both_ways (bit c i) (bit_past c 8 i h l) e)) (cases_lt i 8)
+bit_in_byte c i h e = grind (arith, bit_past c 8 i)

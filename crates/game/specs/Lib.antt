@@ -1,3 +1,4 @@
 pub mod Games
 pub mod Refusals
 pub mod Below
+pub mod Texts

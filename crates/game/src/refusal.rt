@@ -1,6 +1,10 @@
 // Why a call is refused.
-ghost use Rattle.std.specs.Prelude.{◌≡◌};
+ghost use Rattle.std.specs.Prelude.{◌≡◌, Some};
 ghost use Rattle.game.specs.Refusals.{told, number, place};
+ghost use Rattle.game.specs.Texts.{layer_text, fault_text, refusal_text};
+
+use std::error::Error;
+use std::fmt;
 
 // The part of a record in which a fault stands.
 #[derive(Clone, Copy, PartialEq, Eq, Debug)]
@@ -10,12 +14,36 @@ pub enum Layer {
     Record,
 }
 
+impl fmt::Display for Layer {
+    ghost output = { λ layer. Some (layer_text layer) };
+
+    fn fmt<W: fmt::Write>(&self, f: &mut fmt::Formatter<W>) -> fmt::Result {
+        f.write_str(match self {
+            Layer::Set => "set",
+            Layer::Row => "row",
+            Layer::Record => "record",
+        })
+    }
+}
+
 // Where a fault stands: its place in the bytes, its layer, and the state in whose row it stands, if it stands in a row.
 #[derive(Clone, Copy, PartialEq, Eq, Debug)]
 pub struct Fault {
     pub place: usize,
     pub layer: Layer,
     pub state: Option<u16>,
+}
+
+impl fmt::Display for Fault {
+    ghost output = { λ fault. Some (fault_text fault) };
+
+    fn fmt<W: fmt::Write>(&self, f: &mut fmt::Formatter<W>) -> fmt::Result {
+        write!(f, "at {} in {}", self.place, self.layer)?;
+        match self.state {
+            Some(state) => write!(f, " state {state}"),
+            None => Ok(()),
+        }
+    }
 }
 
 // The twenty-one causes, in the order of their numbers.
@@ -45,7 +73,7 @@ pub enum Refusal {
 }
 
 impl Refusal {
-    // the number of the cause, 1 to 21
+    // the number of the cause, 1 to 21; `From<Refusal> for u8` would be the same match under a name that says less
     pub fn number(&self) -> u8
         ensures { result ≡ number (told self.now) }
     {
@@ -79,14 +107,33 @@ impl Refusal {
         ensures { result ≡ place (told self.now) }
     {
         match self {
-            Refusal::EndsEarly(f) => Some(*f),
-            Refusal::ZeroGroup(f) => Some(*f),
-            Refusal::EmptySupport(f) => Some(*f),
-            Refusal::MemberOutside(f) => Some(*f),
-            Refusal::ZeroMoves(f) => Some(*f),
-            Refusal::BytesRemain(f) => Some(*f),
-            Refusal::TooLong(f) => Some(*f),
+            Refusal::EndsEarly(f)
+            | Refusal::ZeroGroup(f)
+            | Refusal::EmptySupport(f)
+            | Refusal::MemberOutside(f)
+            | Refusal::ZeroMoves(f)
+            | Refusal::BytesRemain(f)
+            | Refusal::TooLong(f) => Some(*f),
             _ => None,
         }
     }
 }
+
+impl fmt::Display for Refusal {
+    ghost output = { λ refusal. Some (refusal_text refusal) };
+
+    fn fmt<W: fmt::Write>(&self, f: &mut fmt::Formatter<W>) -> fmt::Result {
+        write!(f, "refused {}", self.number())?;
+        match self {
+            Refusal::NoState(state) | Refusal::NotSuccessor(state) => write!(f, " state {state}"),
+            Refusal::NoMove(m) | Refusal::NotKept(m) => write!(f, " move {m}"),
+            Refusal::MonitorTable(place) => write!(f, " at {place}"),
+            _ => match self.fault() {
+                Some(fault) => write!(f, " {fault}"),
+                None => Ok(()),
+            },
+        }
+    }
+}
+
+impl Error for Refusal {}

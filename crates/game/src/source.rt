@@ -4,6 +4,9 @@ ghost use Rattle.game.specs.Games.{Game, WellFormed};
 
 use crate::player::Player;
 
+// The most states that a game has.
+pub const MOST_STATES: u16 = 256;
+
 // A source means one game, and each answer is the one that this game gives.
 // A question that names a state, a move or a member outside the game is answered 0.
 pub trait Source {

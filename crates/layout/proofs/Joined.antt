@@ -1,20 +1,13 @@
 -- Laws of `joined`, over the numbers below a bound that pass a test, and over a list with a value for each pair out of two lists.
-use Rattle.std.proofs.Common.{◌≡◌, ℕ, zero, suc, ◌+◌, ◌*◌, ◌/◌, ◌%◌, ◌<◌, ◌≤◌, Bool, true, false, List, [], ◌∷◌, ◌++◌, map, length, get_or, sym, refl, ap, ◌∙◌, ap₂, ⊎_elim, add-one, arith, length-append}
+use Rattle.std.proofs.Common.{◌≡◌, ℕ, zero, suc, ◌+◌, ◌*◌, ◌/◌, ◌%◌, ◌<◌, ◌≤◌, Bool, true, false, List, [], ◌∷◌, ◌++◌, map, length, get_or, sym, refl, ap, ◌∙◌, ap₂, add-one, arith, length-append}
 use lib.ListN.{length-map}
 use Rattle.std.specs.List.{flat_map}
-use Rattle.std.proofs.lemmas.List.{append_assoc, get_or_append_left, get_or-append_right, get_or-map, flat_map_more}
+use Rattle.std.proofs.lemmas.List.{get_or_append_left, get_or-append_right, get_or-map, flat_map_more}
 use Rattle.std.proofs.lemmas.Nat.{div_below, mod_below, div-add-mod'}
-use Rattle.std.proofs.lemmas.Bool.{cases_Bool}
+use Rattle.std.proofs.lemmas.List.Folds.{flat_map-map}
+use Rattle.std.proofs.lemmas.Grind.{flat_map-append}
 use Rattle.game.specs.Below.{below, rank}
 use Rattle.game.proofs.Below.{below_zero, below_yes, below_no, below_front, rank_lt, get_or_below, below_at}
-
-pub joined_append : {X A : Type 0} (f : X → List A) (xs ys : List X) → flat_map f (xs ++ ys) ≡ flat_map f xs ++ flat_map f ys
-joined_append f [] ys = refl
-joined_append f (x ∷ xs) ys = ap (λ zs. f x ++ zs) (joined_append f xs ys) ∙ sym (append_assoc (f x) (flat_map f xs) (flat_map f ys))
-
-joined_map : {X Y A : Type 0} (f : Y → List A) (h : X → Y) (xs : List X) → flat_map f (map h xs) ≡ flat_map (λ x. f (h x)) xs
-joined_map f h [] = refl
-joined_map f h (x ∷ xs) = ap (λ zs. f (h x) ++ zs) (joined_map f h xs)
 
 -- over the numbers below a bound that pass a test
 module _ {A : Type 0} (f : ℕ → List A) (q : ℕ → Bool) where
@@ -29,7 +22,7 @@ module _ {A : Type 0} (f : ℕ → List A) (q : ℕ → Bool) where
 
   -- what is joined below m stands in front of what is joined from m on
   pub joined_front : (m n : ℕ) → m ≤ n → (ys : List A) × (flat_map f (below q n) ≡ flat_map f (below q m) ++ ys)
-  joined_front m n h = let (xs, front) = below_front q m n h in (flat_map f xs, ap (flat_map f) front ∙ joined_append f (below q m) xs)
+  joined_front m n h = let (xs, front) = below_front q m n h in (flat_map f xs, ap (flat_map f) front ∙ flat_map-append f (below q m) xs)
 
   pub length_joined_yes : (n : ℕ) → q n ≡ true → length (flat_map f (below q (n + 1))) ≡ length (flat_map f (below q n)) + length (f n)
   length_joined_yes n e = ap length (joined_yes n e) ∙ length-append (flat_map f (below q n)) (f n)
@@ -46,8 +39,7 @@ module _ {A : Type 0} (f : ℕ → List A) (q : ℕ → Bool) where
   pub length_joined_small : (w n : ℕ) → ((k : ℕ) → length (f k) ≤ w) → length (flat_map f (below q n)) ≤ w * n
   length_joined_small w zero h = omega (arith, ap length joined_none)
   length_joined_small w (suc n) h =
-      let ih = length_joined_small w n h in
-      rw (← (add-one n)) (⊎_elim (λ e. omega (arith, length_joined_yes n e, h n)) (λ e. omega (arith, length_joined_no n e)) (cases_Bool (q n)))
+      rw (← (add-one n)) (grind (arith, length_joined_small w n h, length_joined_yes n, length_joined_no n, h n))
 
 -- the values of f, for each x upward and within it each y upward
 abbrev pub pairs : {X Y A : Type 0} → (X → Y → A) → List X → List Y → List A
@@ -59,20 +51,13 @@ length_pairs f (x ∷ xs) ys = omega (arith, length-append (map (f x) ys) (pairs
 
 get_or_pairs : {X Y A : Type 0} (f : X → Y → A) (xs : List X) (ys : List Y) (i j : ℕ) (x : X) (y : Y) (a : A) → i < length xs → j < length ys → get_or (pairs f xs ys) (i * length ys + j) a ≡ f (get_or xs i x) (get_or ys j y)
 get_or_pairs f [] ys i j x y a l m = absurd (omega arith)
-get_or_pairs f (z ∷ xs) ys zero j x y a l m =
-    ap (λ k. get_or (map (f z) ys ++ pairs f xs ys) k a) (omega arith) ∙ get_or_append_left (map (f z) ys) (pairs f xs ys) a j (omega (arith, length-map ys (f z))) ∙ get_or-map (f z) ys j y a m
+get_or_pairs f (z ∷ xs) ys zero j x y a l m = grind (arith, get_or_append_left (map (f z) ys) (pairs f xs ys) a j, length-map ys (f z), get_or-map (f z) ys j y a m)
 get_or_pairs f (z ∷ xs) ys (suc i) j x y a l m =
-    get_or-append_right (map (f z) ys) (pairs f xs ys) (length ys) (suc i * length ys + j) a (length-map ys (f z)) (omega arith)
-    ∙ ap (λ k. get_or (pairs f xs ys) k a) (omega arith)
-    ∙ get_or_pairs f xs ys i j x y a (omega arith) m
+    grind (arith, get_or-append_right (map (f z) ys) (pairs f xs ys) (length ys) (suc i * length ys + j) a (length-map ys (f z)), get_or_pairs f xs ys i j x y a (omega arith) m)
 
 pub joined_pairs : {X Y A B : Type 0} (g : A → List B) (f : X → Y → A) (xs : List X) (ys : List Y) → flat_map g (pairs f xs ys) ≡ flat_map (λ x. flat_map (λ y. g (f x y)) ys) xs
 joined_pairs g f [] ys = refl
-joined_pairs g f (x ∷ xs) ys = rw (joined_append g (map (f x) ys) (pairs f xs ys), joined_map g (f x) ys, joined_pairs g f xs ys)
-
-positive_factor : (k m n : ℕ) → k < m * n → 0 < n
-positive_factor k m zero h = omega arith
-positive_factor k m (suc n) h = omega arith
+joined_pairs g f (x ∷ xs) ys = rw (flat_map-append g (map (f x) ys) (pairs f xs ys), flat_map-map g (f x) ys, joined_pairs g f xs ys)
 
 -- the pairs of a number below m that passes p and a number below n that passes q
 module _ {A : Type 0} (f : ℕ → ℕ → A) (p q : ℕ → Bool) (m n : ℕ) (d : A) where
@@ -84,7 +69,7 @@ module _ {A : Type 0} (f : ℕ → ℕ → A) (p q : ℕ → Bool) (m n : ℕ) (
   -- what stands at a place is the value of two numbers that pass, and that the place is for
   pub pairs_each : (k : ℕ) → k < rank p m * rank q n → (x : ℕ) × (y : ℕ) × (p x ≡ true) × (q y ≡ true) × (rank p x * rank q n + rank q y ≡ k) × (get_or (pairs f (below p m) (below q n)) k d ≡ f x y)
   pairs_each k h =
-      let pos : 0 < rank q n = positive_factor k (rank p m) (rank q n) h in
+      let pos : 0 < rank q n = grind arith in
       let i : k / rank q n < rank p m = div_below k (rank q n) (rank p m) pos h in
       let j : k % rank q n < rank q n = mod_below k (rank q n) pos in
       let first = below_at p m (k / rank q n) 0 i in

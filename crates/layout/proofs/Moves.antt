@@ -1,7 +1,8 @@
 -- The moves and the supports of the game that a record shows.
 use Rattle.std.proofs.Common.{◌≡◌, ℕ, ◌+◌, ◌*◌, ◌<◌, ◌≤◌, Bool, true, ◌&&◌, ◌⊎◌, List, [], ap, ◌∙◌, inl, inr, ⊎_elim, add-zero, arith}
 use Rattle.std.proofs.lemmas.Nat.{mul-add-lt}
-use Rattle.std.proofs.lemmas.Bool.{cases_Bool, cases_lt, lt-ltb, le-ltb, both_ways, and_parts, and_from, cond-false}
+use Rattle.std.proofs.lemmas.Bool.{cases_Bool, lt-ltb, le-ltb, and_parts}
+use Rattle.std.proofs.lemmas.Bool.Decides.{nat_tests}
 use Rattle.game.specs.Below.{rank, bit}
 use Rattle.game.specs.Games.{Game, Chosen}
 use Rattle.game.specs.declared.player.Player.{Player}
@@ -21,7 +22,7 @@ pub cases_chosen : (g : Game) (s a b : ℕ) → Chosen g s a b ⊎ (Chosen g s a
 cases_chosen g s a b =
     let x : Bool = bit (g.choices One s) a in
     let y : Bool = bit (g.choices Two s) b in
-    ⊎_elim (λ e. inl (and_parts x y e)) (λ e. inr (λ h. both_ways (x && y) e (and_from x y h.0 h.1))) (cases_Bool (x && y))
+    ⊎_elim (λ e. inl (and_parts x y e)) (λ e. inr (λ h. grind arith)) (cases_Bool (x && y))
 
 -- the moves at a state, and past the last state
 pub moves_at_in : (bs : List ℕ) (p : Player) (s : ℕ) → s < states_in bs → moves_at bs p s ≡ at bs (row_place bs s + offset p)
@@ -37,15 +38,11 @@ moves_at_past bs p s h = rw (le-ltb s (states_in bs) h)
 
 pub moves_at_small : (bs : List ℕ) → Bytes bs → (p : Player) (s : ℕ) → moves_at bs p s < 256
 moves_at_small bs small p s =
-    ⊎_elim
-    (λ h. rw (moves_at_in bs p s h) (at_small bs small (row_place bs s + offset p)))
-    (λ h. rw (moves_at_past bs p s h) (omega arith))
-    (cases_lt s (states_in bs))
+    grind (arith, moves_at_in bs p s, moves_at_past bs p s, at_small bs small (row_place bs s + offset p))
 
 -- a state at which a player has a move is a state of the game
 pub move_state : (bs : List ℕ) (p : Player) (s a : ℕ) → bit (moves_at bs p s) a ≡ true → s < states_in bs
-move_state bs p s a e =
-    ⊎_elim (λ h. h) (λ h. absurd (omega (arith, bit_some (moves_at bs p s) a e, moves_at_past bs p s h))) (cases_lt s (states_in bs))
+move_state bs p s a e = grind (arith, bit_some (moves_at bs p s) a e, moves_at_past bs p s)
 
 pub row_sets_at : (bs : List ℕ) (s : ℕ) → s < states_in bs → row_sets bs (row_place bs s) ≡ moves_in (moves_at bs One s) * moves_in (moves_at bs Two s)
 unfolding row_sets
@@ -68,6 +65,4 @@ support_at_chosen bs s a b e = rw (e.0, e.1)
 pub support_at_other : (bs : List ℕ) (s a b : ℕ) → (Chosen (shown bs) s a b → ⊥) → support_at bs s a b ≡ []
 unfolding support_at
 support_at_other bs s a b n =
-    let x : Bool = bit (moves_at bs One s) a in
-    let y : Bool = bit (moves_at bs Two s) b in
-    ⊎_elim (λ e. absurd (n (and_parts x y e))) (cond-false (x && y) (set_at bs (support_place bs s a b)) []) (cases_Bool (x && y))
+    grind (arith, nat_tests)

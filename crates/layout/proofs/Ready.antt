@@ -58,8 +58,5 @@ module _ (bs rows firsts supports : List ℕ) (ready : ∥ Ready bs rows firsts 
     unfolding support_place
     support_noted = (known.2 s inside).2 k few ∙ ap (sets_end bs (row_place bs s + 2)) here
 
-    pub support_begins : support_place bs s a b + 4 ≤ length bs
-    support_begins = (support_good bs known.0 known.1 s a b (e, f)).0.0
-
     pub support_ends : set_end bs (support_place bs s a b) ≤ length bs
     support_ends = (set_shows (states_in bs) bs (support_place bs s a b) known.0 (support_good bs known.0 known.1 s a b (e, f)).0).0

@@ -1,15 +1,16 @@
 -- A set with nothing wrong is written back as its bytes.
-use Rattle.std.proofs.Common.{◌≡◌, ℕ, zero, suc, ◌+◌, ◌-◌, ◌*◌, ◌/◌, ◌%◌, ◌<◌, ◌≤◌, true, false, ◌&&◌, ltb, List, [], ◌∷◌, ◌++◌, map, length, get_or, take, drop, sym, refl, ap, ◌∙◌, ap₂, ⊎_elim, le_refl, add-zero, add-one, arith, take-add}
+use Rattle.std.proofs.Common.{◌≡◌, ℕ, zero, suc, ◌+◌, ◌-◌, ◌*◌, ◌/◌, ◌%◌, ◌<◌, ◌≤◌, true, false, ◌&&◌, List, [], ◌∷◌, ◌++◌, map, length, get_or, drop, sym, refl, ap, ◌∙◌, ap₂, ⊎_elim, le_refl, add-zero, add-one, arith, take-add}
 use Rattle.std.specs.List.{between}
 use Rattle.std.proofs.lemmas.List.{drop-drop, drop_more}
 use Rattle.std.proofs.lemmas.List.Edits.{between_none, between_more}
-use Rattle.std.proofs.lemmas.Bool.{cases_Bool, lt-ltb, and_parts, and_from}
+use Rattle.std.proofs.lemmas.Bool.{cases_Bool, and_parts, and_from}
+use Rattle.std.proofs.lemmas.Bool.Decides.{nat_tests}
 use Rattle.game.specs.Below.{below, bit, elem}
 use Rattle.game.specs.Games.{Ascends}
 use Rattle.game.proofs.Below.{below_zero, below_same, map_yes, map_no, below_at, rank_lt, ascends_within}
+use Rattle.game.proofs.Digits.{weigh_bit, weigh_none, weigh_found, weigh_is}
 use Rattle.layout.specs.Writing.{group, filled, map_byte, set_bytes}
 use Rattle.layout.specs.Reading.{at, map_bit, group_place, set_end, in_set, set_at, GoodSet, GoodSupport, Bytes}
-use Rattle.game.proofs.Digits.{weigh_bit, weigh_same, weigh_none, weigh_found}
 use Rattle.layout.proofs.Members.{in_group}
 use Rattle.layout.proofs.Places.{at_small, group_place_first, group_place_yes, group_place_no}
 use Rattle.layout.proofs.Sets.{elem_below}
@@ -20,26 +21,21 @@ use Rattle.layout.proofs.Sets.{elem_below}
 between_cons : (xs : List ℕ) (i k j : ℕ) → i + 1 ≡ k → i < j → i < length xs → between i j xs ≡ get_or xs i 0 ∷ between k j xs
 between_cons xs i k j e h l =
     let s : j - i ≡ suc (j - k) = omega arith in
-    ap (take (j - i)) (drop_more xs i 0 l) ∙ ap₂ (λ n m. take n (get_or xs i 0 ∷ drop m xs)) s e
+    rw (drop_more xs i 0 l, s, e)
 
 pub between_two : (xs : List ℕ) (i k l j : ℕ) → i + 1 ≡ k → k + 1 ≡ l → l ≤ j → l ≤ length xs → between i j xs ≡ get_or xs i 0 ∷ get_or xs k 0 ∷ between l j xs
 between_two xs i k l j e f h m =
-    between_cons xs i k j e (omega arith) (omega arith) ∙ ap (λ ys. get_or xs i 0 ∷ ys) (between_cons xs k l j f (omega arith) (omega arith))
+    grind (arith, between_cons xs i k j e, between_cons xs k l j f)
 
 between_four : (xs : List ℕ) (p j : ℕ) → p + 4 ≤ j → p + 4 ≤ length xs
     → between p j xs ≡ get_or xs p 0 ∷ get_or xs (p + 1) 0 ∷ get_or xs (p + 2) 0 ∷ get_or xs (p + 3) 0 ∷ between (p + 4) j xs
 between_four xs p j h l =
-    between_two xs p (p + 1) (p + 2) j refl (omega arith) (omega arith) (omega arith)
-    ∙ ap (λ ys. get_or xs p 0 ∷ get_or xs (p + 1) 0 ∷ ys) (between_two xs (p + 2) (p + 3) (p + 4) j (omega arith) (omega arith) h l)
+    grind (arith, between_two xs p (p + 1) (p + 2) j refl, between_two xs (p + 2) (p + 3) (p + 4) j)
 
 -- two parts, one behind the other
 pub between_join : (xs : List ℕ) (i j k : ℕ) → i ≤ j → j ≤ k → between i j xs ++ between j k xs ≡ between i k xs
 between_join xs i j k h l =
-    let s : j ≡ i + (j - i) = omega arith in
-    let t : j - i + (k - j) ≡ k - i = omega arith in
-    ap (λ ys. between i j xs ++ take (k - j) ys) (ap (λ n. drop n xs) s ∙ sym (drop-drop (j - i) i xs))
-    ∙ sym (take-add (j - i) (k - j) (drop i xs))
-    ∙ ap (λ n. take n (drop i xs)) t
+    grind (arith, take-add (j - i) (k - j) (drop i xs), drop-drop (j - i) i xs)
 
 -- ---- the groups of a set
 
@@ -49,7 +45,7 @@ unfolding map_bit
 map_bit_is bs p j i l =
     let q : (8 * j + i) / 8 ≡ j = omega arith in
     let r : (8 * j + i) % 8 ≡ i = omega arith in
-    ap₂ (λ x y. bit (at bs (p + x)) y) q r
+    rw (q, r)
 
 elem_set : (bs : List ℕ) (p g i : ℕ) → g < 32 → i < 8 → elem (8 * g + i) (set_at bs p) ≡ (map_bit bs p g && bit (at bs (group_place bs p g)) i)
 unfolding set_at
@@ -57,9 +53,7 @@ elem_set bs p g i h l = elem_below (in_set bs p) 256 (8 * g + i) (omega arith) �
 
 group_yes : (bs : List ℕ) (p g : ℕ) → Bytes bs → g < 32 → map_bit bs p g ≡ true → group (set_at bs p) g ≡ at bs (group_place bs p g)
 unfolding group
-group_yes bs p g small h e =
-    weigh_same _ (bit (at bs (group_place bs p g))) 8 (λ i l. elem_set bs p g i h l ∙ rw e)
-    ∙ weigh_bit (at bs (group_place bs p g)) 8 (at_small bs small (group_place bs p g))
+group_yes bs p g small h e = weigh_is _ (at bs (group_place bs p g)) 8 (at_small bs small (group_place bs p g)) (λ i l. elem_set bs p g i h l ∙ rw e)
 
 group_no : (bs : List ℕ) (p g : ℕ) → g < 32 → map_bit bs p g ≡ false → group (set_at bs p) g ≡ 0
 unfolding group
@@ -67,17 +61,11 @@ group_no bs p g h e = weigh_none _ 8 (λ i l. elem_set bs p g i h l ∙ rw e)
 
 module _ (n : ℕ) (bs : List ℕ) (p : ℕ) (small : Bytes bs) (good : GoodSet n bs p) where
   filled_is : (g : ℕ) → g < 32 → filled (set_at bs p) g ≡ map_bit bs p g
-  filled_is g h =
-      ⊎_elim
-      (λ e. lt-ltb 0 (group (set_at bs p) g) (rw (group_yes bs p g small h e) (good.1 g h e).1) ∙ sym e)
-      (λ e. ap (ltb 0) (group_no bs p g h e) ∙ sym e)
-      (cases_Bool (map_bit bs p g))
+  filled_is g h = grind (arith, nat_tests, group_yes bs p g small h, group_no bs p g h, good.1 g h)
 
   map_byte_is : (j : ℕ) → j < 4 → map_byte (set_at bs p) j ≡ at bs (p + j)
   unfolding map_byte
-  map_byte_is j h =
-      weigh_same _ (bit (at bs (p + j))) 8 (λ i l. filled_is (8 * j + i) (omega arith) ∙ map_bit_is bs p j i l)
-      ∙ weigh_bit (at bs (p + j)) 8 (at_small bs small (p + j))
+  map_byte_is j h = weigh_is _ (at bs (p + j)) 8 (at_small bs small (p + j)) (λ i l. filled_is (8 * j + i) (omega arith) ∙ map_bit_is bs p j i l)
 
   -- the bytes of the groups below g
   groups_are : (g : ℕ) → g ≤ 32

@@ -1,12 +1,14 @@
 -- What stands at a place where the bytes of a set stand.
-use Rattle.std.proofs.Common.{◌≡◌, ℕ, ◌+◌, ◌*◌, ◌/◌, ◌%◌, ◌<◌, ◌≤◌, true, List, length, sym, ap, ◌∙◌, inl, inr, arith}
-use Rattle.std.proofs.lemmas.Bool.{cases_Bool, ltb-true, ltb-false}
+use Rattle.std.proofs.Common.{◌≡◌, ℕ, ◌+◌, ◌*◌, ◌/◌, ◌%◌, ◌<◌, ◌≤◌, true, List, length, sym, ap, ◌∙◌, arith}
+use Rattle.std.proofs.lemmas.Bool.{ltb-true}
+use Rattle.std.proofs.lemmas.Bool.Decides.{nat_tests}
 use Rattle.game.specs.Below.{rank, bit, elem}
 use Rattle.game.specs.Games.{Ascends}
 use Rattle.game.proofs.Below.{below_same, rank_same, rank_lt, ascends_more, bit_zero}
+use Rattle.game.proofs.Members.{elem_within, below_elem}
 use Rattle.layout.specs.Writing.{group, filled, set_bytes}
 use Rattle.layout.specs.Reading.{at, map_bit, group_place, set_end, in_set, set_at, GoodGroup, GoodSet, GoodSupport}
-use Rattle.layout.proofs.Sets.{elem_within, below_elem, group_bit, state_bit, map_byte_bit, some_group, length_set_bytes, set_bytes_map, set_bytes_group}
+use Rattle.layout.proofs.Sets.{group_bit, state_bit, map_byte_bit, some_group, length_set_bytes, set_bytes_map, set_bytes_group}
 use Rattle.layout.proofs.Stands.{Stands, stands_at, stands_fits}
 
 -- The bytes of the set xs stand at p.
@@ -14,7 +16,7 @@ module _ (bs : List ℕ) (p : ℕ) (xs : List ℕ) (st : Stands (set_bytes xs) p
   map_bit_written : (g : ℕ) → g < 32 → map_bit bs p g ≡ filled xs g
   unfolding map_bit
   map_bit_written g h =
-      ap (λ c. bit c (g % 8)) (stands_at (set_bytes xs) p bs (g / 8) st (omega (arith, length_set_bytes xs)) ∙ set_bytes_map xs (g / 8) (omega arith)) ∙ map_byte_bit xs g
+      grind (arith, stands_at (set_bytes xs) p bs (g / 8) st, length_set_bytes xs, set_bytes_map xs (g / 8), map_byte_bit xs g)
 
   rank_written : (g : ℕ) → g ≤ 32 → rank (map_bit bs p) g ≡ rank (filled xs) g
   rank_written g h = rank_same (map_bit bs p) (filled xs) g (λ k l. map_bit_written k (omega arith))
@@ -22,9 +24,7 @@ module _ (bs : List ℕ) (p : ℕ) (xs : List ℕ) (st : Stands (set_bytes xs) p
   group_written : (g : ℕ) → g < 32 → filled xs g ≡ true → at bs (group_place bs p g) ≡ group xs g
   unfolding group_place
   group_written g h e =
-      ap (at bs) (omega (arith, rank_written g (omega arith)))
-      ∙ stands_at (set_bytes xs) p bs (4 + rank (filled xs) g) st (omega (arith, length_set_bytes xs, rank_lt (filled xs) g 32 h e))
-      ∙ set_bytes_group xs g h e
+      grind (arith, rank_written g, stands_at (set_bytes xs) p bs (4 + rank (filled xs) g) st, length_set_bytes xs, rank_lt (filled xs) g 32 h e, set_bytes_group xs g h e)
 
   set_end_written : set_end bs p ≡ p + length (set_bytes xs)
   unfolding set_end
@@ -33,12 +33,8 @@ module _ (bs : List ℕ) (p : ℕ) (xs : List ℕ) (st : Stands (set_bytes xs) p
   in_set_written : (s : ℕ) → s < 256 → in_set bs p s ≡ elem s xs
   unfolding in_set
   in_set_written s h =
-      elim (cases_Bool (filled xs (s / 8))) [
-        | inl e ↦ rw (map_bit_written (s / 8) (omega arith), e, group_written (s / 8) (omega arith) e) (state_bit xs s)
-        | inr e ↦
-            let none : group xs (s / 8) ≡ 0 = omega (arith, ltb-false 0 (group xs (s / 8)) e) in
-            rw (map_bit_written (s / 8) (omega arith), e) (sym (bit_zero (s % 8)) ∙ ap (λ c. bit c (s % 8)) (sym none) ∙ state_bit xs s)
-      ]
+      let g : ℕ = s / 8 in
+      grind (arith, nat_tests, map_bit_written g (omega arith), group_written g (omega arith), state_bit xs s, bit_zero (s % 8))
 
   set_at_written : (n : ℕ) → n ≤ 256 → Ascends 0 n xs → set_at bs p ≡ xs
   unfolding set_at

@@ -1,14 +1,13 @@
 -- What is said of the bytes of a set once they are read, and once they are refused.
-use Rattle.std.proofs.Common.{◌≡◌, ℕ, suc, ◌/◌, ◌%◌, ◌<◌, min, Bool, true, false, cond, ◌&&◌, List, [], ◌∷◌, length, get_or, sym, refl, ap, ◌∙◌, arith}
+use Rattle.std.proofs.Common.{◌≡◌, ℕ, suc, min, List, [], ◌∷◌, length, sym, ap, ◌∙◌, arith}
 use Rattle.std.proofs.lemmas.List.{take_all}
 use Rattle.std.proofs.lemmas.Slice.{between_to_end}
 use Rattle.game.specs.Games.{Ascends}
 use Rattle.game.specs.Refusals.{Told}
-use Rattle.game.specs.Below.{bit}
-use Rattle.game.proofs.Below.{below_same, ascends_below, bit_zero}
+use Rattle.game.proofs.Below.{ascends_below}
 use Rattle.layout.specs.Writing.{set_bytes}
-use Rattle.layout.specs.Reading.{at, map_bit, group_place, set_end, set_at, in_set, Bytes, GoodSet}
-use Rattle.layout.specs.Targets.{SetOf, GoodTarget, BadTarget, too_long, bad_set, remain, TargetRead, NotTarget, states_of}
+use Rattle.layout.specs.Reading.{set_end, set_at, in_set, Bytes, GoodSet}
+use Rattle.layout.specs.Targets.{SetOf, GoodTarget, BadTarget, too_long, bad_set, remain, TargetRead, NotTarget}
 use Rattle.layout.proofs.Exclusive.{bad_set_not_good}
 use Rattle.layout.proofs.SetShown.{set_shows}
 use Rattle.layout.proofs.SetWritten.{set_written}
@@ -21,10 +20,6 @@ ascends_both m a b (x ∷ xs) p q = (p.0, omega arith, ascends_both (suc x) a b 
 set_at_ascends : (bs : List ℕ) → Ascends 0 256 (set_at bs 0)
 unfolding set_at
 set_at_ascends bs = ascends_below (in_set bs 0) 256
-
-kept_bit : (t : Bool) (c i : ℕ) → bit (cond t c 0) i ≡ (t && bit c i)
-kept_bit true c i = refl
-kept_bit false c i = bit_zero i
 
 module _ (n : ℕ) (bs : List ℕ) where
   -- what stands in the bytes of a set
@@ -55,13 +50,3 @@ module _ (n : ℕ) (bs : List ℕ) where
 
   pub not_target : (t : Told) → BadTarget n bs t → NotTarget n bs t
   not_target t bad = record { first_fault = bad; no_set = λ ys s. bad_target t bad (written ys s).0 }
-
--- the byte that is kept for group g of the set that begins at p
-abbrev pub kept_byte : List ℕ → ℕ → ℕ → ℕ
-kept_byte bs p g = cond (map_bit bs p g) (at bs (group_place bs p g)) 0
-
--- the bytes of the groups, kept one by one, have the states of the set
-pub states_kept : (bs groups : List ℕ) (p : ℕ) → ((g : ℕ) → g < 32 → get_or groups g 0 ≡ kept_byte bs p g) → states_of groups ≡ set_at bs p
-unfolding set_at in_set
-states_kept bs groups p h =
-    below_same _ _ 256 (λ s l. ap (λ c. bit c (s % 8)) (h (s / 8) (omega arith)) ∙ kept_bit (map_bit bs p (s / 8)) (at bs (group_place bs p (s / 8))) (s % 8))

@@ -1,7 +1,6 @@
 -- The bytes of a record are good, and they show the game that was written.
-use Rattle.std.proofs.Common.{◌≡◌, ℕ, zero, suc, ◌+◌, ◌-◌, ◌<◌, ◌≤◌, true, List, [], ◌∷◌, ◌++◌, length, sym, refl, ap, ◌∙◌, subst, inl, inr, add-one, arith}
+use Rattle.std.proofs.Common.{◌≡◌, ℕ, zero, suc, ◌+◌, ◌-◌, ◌<◌, ◌≤◌, true, List, [], ◌∷◌, ◌++◌, length, sym, refl, ap, ◌∙◌, subst, add-one, arith, ⊎_elim}
 use Rattle.std.specs.List.{flat_map}
-use Rattle.std.proofs.lemmas.Bool.{cases_lt}
 use Rattle.game.specs.Below.{below}
 use Rattle.game.specs.Games.{Game, WellFormed, Chosen, Same}
 use Rattle.game.specs.declared.player.Player.{Player}
@@ -58,19 +57,11 @@ module _ (g : Game) (w : WellFormed g) (bs : List ℕ) (e : record_of g ≡ bs) 
   choices_written Two s l = second_written g w s l bs (row_place bs s) (stands_at_place s l)
 
   moves_written : (p : Player) (s : ℕ) → moves_at bs p s ≡ g.choices p s
-  moves_written p s =
-      elim (cases_lt s g.size) [
-        | inl l ↦ moves_at_in bs p s (omega (arith, states_written)) ∙ choices_written p s l
-        | inr l ↦ moves_at_past bs p s (omega (arith, states_written)) ∙ sym (w.no_move p s l)
-      ]
+  moves_written p s = grind (arith, states_written, moves_at_in bs p s, choices_written p s, moves_at_past bs p s, w.no_move p s)
 
   -- moves are chosen only at a state
   chosen_state : (s a b : ℕ) → Chosen g s a b → s < g.size
-  chosen_state s a b h =
-      elim (cases_lt s g.size) [
-        | inl l ↦ l
-        | inr l ↦ absurd (omega (arith, bit_some (g.choices One s) a h.0, w.no_move One s l))
-      ]
+  chosen_state s a b h = grind (arith, bit_some (g.choices One s) a, w.no_move One s)
 
   chosen_written : (s a b : ℕ) → Chosen g s a b → set_at bs (support_place bs s a b) ≡ g.support s a b
   unfolding support_place
@@ -80,10 +71,10 @@ module _ (g : Game) (w : WellFormed g) (bs : List ℕ) (e : record_of g ≡ bs) 
 
   support_written : (s a b : ℕ) → support_at bs s a b ≡ g.support s a b
   support_written s a b =
-      elim (cases_chosen g s a b) [
-        | inl h ↦ support_at_chosen bs s a b (rw (moves_written One s, moves_written Two s) h) ∙ chosen_written s a b h
-        | inr n ↦ support_at_other bs s a b (λ h. n (rw (moves_written One s, moves_written Two s) at h)) ∙ sym (w.no_next s a b n)
-      ]
+      ⊎_elim
+      (λ h. support_at_chosen bs s a b (rw (moves_written One s, moves_written Two s) h) ∙ chosen_written s a b h)
+      (λ n. support_at_other bs s a b (λ h. n (rw (moves_written One s, moves_written Two s) at h)) ∙ sym (w.no_next s a b n))
+      (cases_chosen g s a b)
 
   same_written : Same g (shown bs)
   same_written = record { size = sym states_written; choices = λ p s. sym (moves_written p s); support = λ s a b. sym (support_written s a b) }

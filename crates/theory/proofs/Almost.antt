@@ -1,17 +1,15 @@
 -- What the almost-sure states are: those from which some rule of move sets keeps the target within reach.
-use Rattle.std.proofs.Common.{◌≡◌, ℕ, zero, suc, ◌<◌, ◌≤◌, true, ◌⊎◌, List, [], ◌∷◌, sym, ◌∙◌, subst, inl, inr, ⊎_elim, arith}
+use Rattle.std.proofs.Common.{◌≡◌, ℕ, zero, suc, ◌<◌, ◌≤◌, true, ◌⊎◌, List, [], ◌∷◌, inl, inr, ⊎_elim, arith}
 use Rattle.game.specs.Below.{bit, weigh}
 use Rattle.game.specs.declared.player.Player.TheVariants.{One, Two}
-use Rattle.game.proofs.Below.{bit_in_byte}
-use Rattle.game.proofs.Digits.{bit_weigh, weigh_byte}
-use Rattle.theory.specs.Layers.{Enters}
 use Rattle.theory.specs.Positions.{Position, Playable, State, Keeps, Leads, Target}
 use Rattle.theory.specs.Strategies.{History, begins, goes_on, Met, Rule, Allows, Opponent, Reaches, KeepsReach, KeptInReach}
 use Rattle.theory.specs.Verdicts.{Into, Sure, Stay, Touches, Level, Outer, Settled, Almost, AlmostRank, AlmostMove}
-use Rattle.theory.proofs.Finite.{Decided, test, test_holds, holds_test, decided_and, decided_to, decided_not, decided_state, decided_keeps, decided_target, decided_into, move_lt, kept_some, next_some}
+use Rattle.theory.proofs.Finite.{Decided, test, decided_and, decided_to, decided_not, decided_state, decided_keeps, decided_target, decided_into, move_lt, kept_some, next_some, byte_decided}
 use Rattle.theory.proofs.Layers.{upto_decided, upto_enters, upto_all, enters_one, enters_lt}
 use Rattle.theory.proofs.Histories.{met_now, history_state}
-use Rattle.theory.proofs.Rounds.{Answers, target_outer, level_inside, outer_state, touches_or, outer_decided, levels_grow, rounds_unique, rounds_exist}
+use Rattle.theory.proofs.Rounds.{Answers, target_outer, level_inside, outer_state, touches_or, outer_decided, levels_grow, rounds_exist, almost_at, almost_rank_at}
+use Rattle.theory.specs.Laws.{Exactly}
 
 -- the almost-sure states are those with a rank
 pub almost_ranked : (x : Position) → Playable x → (s : ℕ) → Almost x s → (r : ℕ) × AlmostRank x r s
@@ -28,15 +26,14 @@ pub almost_bound : (x : Position) → Playable x → (r s : ℕ) → AlmostRank 
 almost_bound x ok r s (j, _, enters) = enters_lt (levels_grow ok j) r s enters
 
 pub almost_rank_one : (x : Position) → Playable x → (q r s : ℕ) → AlmostRank x q s → AlmostRank x r s → q ≡ r
-almost_rank_one x ok q r s (i, at_i, e) (j, at_j, f) =
-    enters_one (levels_grow ok j) q r s (subst (λ k. Enters (Level x (Outer x k)) q s) (rounds_unique x i j at_i at_j) e) f
+almost_rank_one x ok q r s h (j, last, f) = enters_one (levels_grow ok j) q r s (almost_rank_at x j last q s h) f
 
 pub almost_decided : (x : Position) → Playable x → (s : ℕ) → ((r : ℕ) × AlmostRank x r s) ⊎ (Almost x s → ⊥)
 almost_decided x ok s =
     let (j, rounds) = rounds_exist x ok in
     ⊎_elim
     (λ h. inl (almost_ranked x ok s (j, rounds, h)))
-    (λ f. inr (λ (i, at_i, h). f (subst (λ k. Outer x k s) (rounds_unique x i j at_i rounds) h)))
+    (λ f. inr (λ h. f (almost_at x j rounds s h)))
     (outer_decided ok j s)
 
 -- the sure states are almost sure
@@ -110,15 +107,9 @@ module _ {x : Position} (ok : Playable x) (j : ℕ) (settled : Settled x j) wher
   stays : List ℕ → ℕ → ℕ
   stays past s = weigh (λ a. test (named_decided s a)) 8
 
-  stays_named : (past : List ℕ) (s a : ℕ) → bit (stays past s) a ≡ true → Named s a
-  unfolding stays
-  stays_named past s a e =
-      let l = bit_in_byte (stays past s) a (weigh_byte (λ a. test (named_decided s a)) 8 (omega arith)) e in
-      test_holds (named_decided s a) (sym (bit_weigh (λ a. test (named_decided s a)) 8 a l) ∙ e)
-
-  named_stays : (past : List ℕ) (s a : ℕ) → Named s a → bit (stays past s) a ≡ true
+  stays_are : (past : List ℕ) (s a : ℕ) → Exactly (bit (stays past s) a ≡ true) (Named s a)
   unfolding stays Named
-  named_stays past s a h = bit_weigh (λ a. test (named_decided s a)) 8 a (move_lt ok One s a h.0) ∙ holds_test (named_decided s a) h
+  stays_are past s = byte_decided (Named s) (named_decided s) (λ a h. move_lt ok One s a h.0)
 
   stays_rule : Rule x stays
   unfolding Named
@@ -129,12 +120,12 @@ module _ {x : Position} (ok : Playable x) (j : ℕ) (settled : Settled x j) wher
             (λ (y, off).
             let (k, level) = settled s y in
             let (a, stay) = level_stay ok (Outer x j) (outer_state x j) k s level off in
-            (a, named_stays past s a (stay.0, λ _. stay.1)))
+            (a, (stays_are past s a).1 (stay.0, λ _. stay.1)))
             (λ f.
             let (a, keeps) = kept_some ok One s (history_state ok h) in
-            (a, named_stays past s a (keeps, λ g. absurd (f g))))
+            (a, (stays_are past s a).1 (keeps, λ g. absurd (f g))))
             (decided_and (outer_decided ok j s) (decided_not (decided_target x s)));
-        named_kept = λ past s h a e. (stays_named past s a e).0;
+        named_kept = λ past s h a e. ((stays_are past s a).0 e).0;
       }
 
   -- what the rule allows from a state of Y has met the target or ends in Y
@@ -147,7 +138,7 @@ module _ {x : Position} (ok : Playable x) (j : ℕ) (settled : Settled x j) wher
       (λ h.
       ⊎_elim
       (λ on. inl (inr (met_now x past r on)))
-      (λ off. inr ((stays_named past r a named).1 (h, off) b l t m))
+      (λ off. inr (((stays_are past r a).0 named).1 (h, off) b l t m))
       (decided_target x r))
       (stays_inside y w)
 
@@ -159,7 +150,7 @@ module _ {x : Position} (ok : Playable x) (j : ℕ) (settled : Settled x j) wher
   stays_reach names opponent (suc k) past t h (inr touches) =
       let l = opponent past t h in
       let (a, stay, (u, leads, level)) = touches.1 (names past t) l in
-      Reaches.on a u (named_stays past t a (stay.0, λ _. stay.1)) leads
+      Reaches.on a u ((stays_are past t a).1 (stay.0, λ _. stay.1)) leads
       (stays_reach names opponent k (t ∷ past) u (goes_on h a (names past t) u stay.0 l leads) level)
 
   stays_keep : (s : ℕ) → Outer x j s → KeepsReach x stays s

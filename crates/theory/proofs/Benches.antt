@@ -1,7 +1,8 @@
 -- Runs of calls on a bench: after each the bench is what the calls and answers say, its verdicts mean strategies and rules of move sets, and
 -- every call has an answer.
 use Rattle.std.proofs.Common.{◌≡◌, ℕ, zero, suc, ◌<◌, Bool, true, false, cond, eqb, ◌⊎◌, List, ◌∷◌, sym, refl, ap, ◌∙◌, subst, inl, inr, ⊎_elim, arith}
-use Rattle.std.proofs.lemmas.Bool.{false≢true, both_ways, cases_Bool, cases_lt, eqb-true, eq-eqb, eqb-false}
+use Rattle.std.proofs.lemmas.Bool.{false≢true, both_ways, cases_Bool, cases_lt, eq-eqb, cases_eq, cond-true, cond-false, ne_eqb}
+use Rattle.std.proofs.lemmas.Bool.Decides.{nat_tests}
 use Rattle.game.specs.Below.{bit, rank, weigh}
 use Rattle.game.specs.Games.{Game, WellFormed}
 use Rattle.game.specs.Refusals.{Told, bare, with_value}
@@ -10,15 +11,15 @@ use Rattle.game.specs.declared.mode.Mode.TheVariants.{Sure as InSure, Almost as 
 use Rattle.game.specs.declared.player.Player.{Player}
 use Rattle.game.specs.declared.player.Player.TheVariants.{One, Two}
 use Rattle.game.proofs.Below.{bit_some, bit_past, bit_in_byte}
-use Rattle.game.proofs.Digits.{bit_weigh, weigh_byte}
+use Rattle.game.proofs.Digits.{weigh_byte, bit_byte}
 use Rattle.theory.specs.Benches.{Bench, opened, position, Call, mark, unmark, bar, allow, solve, verdict, moves, reply, Rank, Handed, Counts, Answer, done, refused, told, ranked, not_winning, set, replied, Names, Refuses, no_state, bar_no_move, allow_no_move, marked_already, unmarked_already, barred_already, allowed_already, only_move, verdict_unsolved, moves_unsolved, reply_unsolved, moves_not_winning, reply_sure, reply_not_kept, Tells, verdict_ranked, verdict_not_winning, moves_set, replies, with_state, MoveSet, Step, refuses, tells, marks, unmarks, bars, allows, solves, Ran, begins, then}
 use Rattle.theory.specs.Positions.{Position, Playable, Keeps}
-use Rattle.theory.specs.Verdicts.{Into, Sure, SureRank, Outer, AlmostRank}
+use Rattle.theory.specs.Verdicts.{Sure, SureRank, Outer, AlmostRank}
 use Rattle.theory.proofs.Almost.{almost_decided, almost_ranked, ranked_almost, almost_means}
-use Rattle.theory.proofs.Layers.{upto_decided, upto_enters, enters_one}
-use Rattle.theory.proofs.Rounds.{outer_decided, rounds_unique, rounds_exist}
-use Rattle.theory.proofs.Sure.{sure_grows, sure_decided, sure_means, never_forced, reply_some}
-use Rattle.theory.proofs.Finite.{Decided, test, test_holds, holds_test, decided_by, decided_and, decided_not, some_or_none, decided_target, decided_keeps, decided_into, move_lt, kept_some}
+use Rattle.theory.proofs.Layers.{upto_decided, upto_enters}
+use Rattle.theory.proofs.Rounds.{outer_decided, rounds_exist, almost_move_at}
+use Rattle.theory.proofs.Sure.{sure_grows, sure_decided, sure_means, never_forced, reply_some, sure_move_into}
+use Rattle.theory.proofs.Finite.{Decided, test, test_holds, holds_test, decided_by, decided_and, decided_not, decided_target, decided_keeps, decided_into, move_lt, fails_test, byte_decided, all_or_some_within}
 use Rattle.theory.specs.Laws.{Exactly, Latest, Accepted, InTarget, Barred, GivesVerdicts, Judged, BenchLaw, VerdictLaw}
 
 -- what a call makes of a statement B: it is of the first kind, or B held and it is not of the second
@@ -56,48 +57,30 @@ change_none g b call answer unlike made = record {
   solved_after = now_same unlike made;
 }
 
-refuses_no_solve : {g : Game} {b : Bench} {call : Call} {why : Told} → Refuses g b call why → call ≡ solve → ⊥
-refuses_no_solve (no_state call s n l) e = subst (λ c. Names c s) e n
-refuses_no_solve (bar_no_move p s m l h) e = grind arith
-refuses_no_solve (allow_no_move p s m l h) e = grind arith
-refuses_no_solve (marked_already s l h) e = grind arith
-refuses_no_solve (unmarked_already s l h) e = grind arith
-refuses_no_solve (barred_already p s m l h k) e = grind arith
-refuses_no_solve (allowed_already p s m l h k) e = grind arith
-refuses_no_solve (only_move p s m l h k o) e = grind arith
-refuses_no_solve (verdict_unsolved mode s l u) e = grind arith
-refuses_no_solve (moves_unsolved mode s l u) e = grind arith
-refuses_no_solve (reply_unsolved s a l u) e = grind arith
-refuses_no_solve (moves_not_winning mode s l u n) e = grind arith
-refuses_no_solve (reply_sure s a r l u h) e = grind arith
-refuses_no_solve (reply_not_kept s a l u n k) e = grind arith
+-- solve is never refused and is no question, and no question is answered as an edit is
+pub refuses_solve : {g : Game} {b : Bench} {why : Told} → Refuses g b solve why → ⊥
+refuses_solve (no_state call s n l) = n
 
-tells_no_solve : {g : Game} {b : Bench} {call : Call} {answer : Answer} → Tells g b call answer → call ≡ solve → ⊥
-tells_no_solve (verdict_ranked mode s r l u h) e = grind arith
-tells_no_solve (verdict_not_winning mode s l u n) e = grind arith
-tells_no_solve (moves_set mode s r c l u h b i) e = grind arith
-tells_no_solve (replies s a m t l u n k i) e = grind arith
+tells_solve : {g : Game} {b : Bench} {answer : Answer} → Tells g b solve answer → ⊥
+tells_solve h = elim h [ ]
 
-tells_no_edit : {g : Game} {b : Bench} {call : Call} {answer : Answer} → Tells g b call answer → answer ≡ done → ⊥
-tells_no_edit (verdict_ranked mode s r l u h) e = grind arith
-tells_no_edit (verdict_not_winning mode s l u n) e = grind arith
-tells_no_edit (moves_set mode s r c l u h b i) e = grind arith
-tells_no_edit (replies s a m t l u n k i) e = grind arith
+tells_done : {g : Game} {b : Bench} {call : Call} → Tells g b call done → ⊥
+tells_done h = elim h [ ]
 
 -- marks and unmarks
 mark_target : (target : ℕ → Bool) (s t : ℕ) → Exactly (with_state target s true t ≡ true) (Now (Accepted (mark t)) (Accepted (unmark t)) (mark s) done (target t ≡ true))
 mark_target target s t =
     ⊎_elim
-    (λ e. now_first (ap mark (sym (eqb-true t s e)), refl) (ap (λ c. cond c true (target t)) e))
-    (λ e. subst (λ c. Exactly (cond c true (target t) ≡ true) (Now (Accepted (mark t)) (Accepted (unmark t)) (mark s) done (target t ≡ true))) (sym e) (now_same (λ (h, _). eqb-false t s e (cc)) (λ (h, _). grind arith)))
-    (cases_Bool (eqb t s))
+    (λ e. now_first (rw e refl, refl) (cond-true (eqb t s) true (target t) (eq-eqb t s e)))
+    (λ off. rw (ne_eqb t s off) (now_same (λ (h, _). off (cc)) (λ (h, _). grind arith)))
+    (cases_eq t s)
 
 unmark_target : (target : ℕ → Bool) (s t : ℕ) → Exactly (with_state target s false t ≡ true) (Now (Accepted (mark t)) (Accepted (unmark t)) (unmark s) done (target t ≡ true))
 unmark_target target s t =
     ⊎_elim
-    (λ e. now_second (λ (h, _). grind arith) (ap unmark (sym (eqb-true t s e)), refl) (both_ways (cond (eqb t s) false (target t)) (ap (λ c. cond c false (target t)) e)))
-    (λ e. subst (λ c. Exactly (cond c false (target t) ≡ true) (Now (Accepted (mark t)) (Accepted (unmark t)) (unmark s) done (target t ≡ true))) (sym e) (now_same (λ (h, _). grind arith) (λ (h, _). eqb-false t s e (cc))))
-    (cases_Bool (eqb t s))
+    (λ e. now_second (λ (h, _). grind arith) (rw e refl, refl) (both_ways (with_state target s false t) (cond-true (eqb t s) false (target t) (eq-eqb t s e))))
+    (λ off. rw (ne_eqb t s off) (now_same (λ (h, _). grind arith) (λ (h, _). off (cc))))
+    (cases_eq t s)
 
 -- bars and allows
 same_player : (p q : Player) → (p ≡ q) ⊎ (p ≡ q → ⊥)
@@ -106,11 +89,8 @@ same_player One Two = inr (λ e. grind arith)
 same_player Two One = inr (λ e. grind arith)
 same_player Two Two = inl refl
 
-same_number : (m n : ℕ) → (m ≡ n) ⊎ (m ≡ n → ⊥)
-same_number m n = ⊎_elim (λ e. inl (eqb-true m n e)) (λ e. inr (eqb-false m n e)) (cases_Bool (eqb m n))
-
 same_move : (p q : Player) (s t m n : ℕ) → ((q ≡ p) × (t ≡ s) × (n ≡ m)) ⊎ ((q ≡ p) × (t ≡ s) × (n ≡ m) → ⊥)
-same_move p q s t m n = decided_by (λ (e, (f, i)). (e, f, i)) (λ (e, f, i). (e, (f, i))) (decided_and (same_player q p) (decided_and (same_number t s) (same_number n m)))
+same_move p q s t m n = decided_by (λ (e, (f, i)). (e, f, i)) (λ (e, f, i). (e, (f, i))) (decided_and (same_player q p) (decided_and (cases_eq t s) (cases_eq n m)))
 
 move_there : {old new : Player → ℕ → ℕ} {p : Player} {s m : ℕ} {v : Bool} → MoveSet old new p s m v → (q : Player) (t n : ℕ) → (q ≡ p) × (t ≡ s) × (n ≡ m) → bit (new q t) n ≡ v
 move_there {new = new} h q t n (e, f, i) = rw (e, f, i) h.there
@@ -120,64 +100,54 @@ move_elsewhere {old} {new} {p} {s} {m} h q t n off =
     ⊎_elim
     (λ (e, f). rw (e, f) (h.other_moves n (λ i. off (e, f, i))))
     (λ out. ap (λ c. bit c n) (h.elsewhere q t out))
-    (decided_and (same_player q p) (same_number t s))
+    (decided_and (same_player q p) (cases_eq t s))
 
 move_few : {old new : Player → ℕ → ℕ} {p : Player} {s m : ℕ} {v : Bool} → MoveSet old new p s m v → ((q : Player) (t : ℕ) → old q t < 256) → (q : Player) (t : ℕ) → new q t < 256
 move_few {old} {new} {p} {s} h few q t =
     ⊎_elim
     (λ (e, f). rw (e, f) h.few)
     (λ out. rw (h.elsewhere q t out) (few q t))
-    (decided_and (same_player q p) (same_number t s))
+    (decided_and (same_player q p) (cases_eq t s))
 
--- one kept move more or less leaves the position playable
-bar_playable : (g : Game) (b : Bench) (p : Player) (s m i : ℕ) (new : Player → ℕ → ℕ) (solved : Bool) → Keeps (position g b) p s i → (i ≡ m → ⊥) → MoveSet b.kept new p s m false → Playable (position g b) → Playable (position g (record { target = b.target; kept = new; solved = solved }))
-bar_playable g b p s m i new solved k other h ok = record {
+-- one kept move more, or one less, leaves the position playable
+move_playable : (g : Game) (b : Bench) (p : Player) (s m i : ℕ) (new : Player → ℕ → ℕ) (v : Bool) → (v ≡ true → bit (g.choices p s) m ≡ true) → bit (new p s) i ≡ true → MoveSet b.kept new p s m v → Playable (position g b) → Playable (record { game = g; kept = new; target = b.target })
+move_playable g b p s m i new v had k h ok = record {
   valid = ok.valid;
   kept_had = λ q t n e.
       ⊎_elim
-      (λ there. absurd (both_ways (bit (new q t) n) (move_there h q t n there) e))
+      (λ here. rw (here.0, here.1, here.2) (had (sym (move_there h q t n here) ∙ e)))
       (λ off. ok.kept_had q t n (sym (move_elsewhere h q t n off) ∙ e))
       (same_move p q s t m n);
   some_kept = λ q t l.
       ⊎_elim
-      (λ (e, f). rw (e, f) (bit_some (new p s) i (h.other_moves i other ∙ k)))
+      (λ (e, f). rw (e, f) (bit_some (new p s) i k))
       (λ out. rw (h.elsewhere q t out) (ok.some_kept q t l))
-      (decided_and (same_player q p) (same_number t s));
+      (decided_and (same_player q p) (cases_eq t s));
   few_kept = move_few h ok.few_kept;
 }
 
-allow_playable : (g : Game) (b : Bench) (p : Player) (s m : ℕ) (new : Player → ℕ → ℕ) (solved : Bool) → bit (g.choices p s) m ≡ true → MoveSet b.kept new p s m true → Playable (position g b) → Playable (position g (record { target = b.target; kept = new; solved = solved }))
-allow_playable g b p s m new solved had h ok = record {
-  valid = ok.valid;
-  kept_had = λ q t n e.
-      ⊎_elim
-      (λ (i, j, k). rw (i, j, k) had)
-      (λ off. ok.kept_had q t n (sym (move_elsewhere h q t n off) ∙ e))
-      (same_move p q s t m n);
-  some_kept = λ q t l.
-      let (n, k) = kept_some ok q t l in
-      bit_some (new q t) n (⊎_elim (move_there h q t n) (λ off. move_elsewhere h q t n off ∙ k) (same_move p q s t m n));
-  few_kept = move_few h ok.few_kept;
-}
+-- another target leaves it playable
+target_playable : (g : Game) (b : Bench) (target : ℕ → Bool) → Playable (position g b) → Playable (record { game = g; kept = b.kept; target = target })
+target_playable g b target ok = record { valid = ok.valid; kept_had = ok.kept_had; some_kept = ok.some_kept; few_kept = ok.few_kept }
 
 -- each call
 change_step : (g : Game) {b c : Bench} {call : Call} {answer : Answer} → Step g b call answer c → Change g b call answer c
-change_step g (refuses b call why h) = change_none g b call (refused why) (refuses_no_solve h) (λ e. grind arith)
-change_step g (tells b call answer h) = change_none g b call answer (tells_no_solve h) (tells_no_edit h)
+change_step g (refuses b call why h) = change_none g b call (refused why) (λ e. refuses_solve (subst (λ c. Refuses g b c why) e h)) (λ e. grind arith)
+change_step g (tells b call answer h) = change_none g b call answer (λ e. tells_solve (subst (λ c. Tells g b c answer) e h)) (λ e. tells_done (subst (Tells g b call) e h))
 change_step g (marks b s l n) = record {
-  playable_after = λ ok. record { valid = ok.valid; kept_had = ok.kept_had; some_kept = ok.some_kept; few_kept = ok.few_kept };
+  playable_after = target_playable g b _;
   target_after = mark_target b.target s;
   barred_after = λ p t m. now_same (λ (h, _). grind arith) (λ (h, _). grind arith);
   solved_after = now_second (λ h. grind arith) refl false≢true;
 }
 change_step g (unmarks b s l n) = record {
-  playable_after = λ ok. record { valid = ok.valid; kept_had = ok.kept_had; some_kept = ok.some_kept; few_kept = ok.few_kept };
+  playable_after = target_playable g b _;
   target_after = unmark_target b.target s;
   barred_after = λ p t m. now_same (λ (h, _). grind arith) (λ (h, _). grind arith);
   solved_after = now_second (λ h. grind arith) refl false≢true;
 }
 change_step g (bars b p s m i new l had k other off by) = record {
-  playable_after = bar_playable g b p s m i new false other off by;
+  playable_after = move_playable g b p s m i new false (λ e. absurd (false≢true e)) (by.other_moves i off ∙ other) by;
   target_after = λ t. now_same (λ (h, _). grind arith) (λ (h, _). grind arith);
   barred_after = λ q t n.
       ⊎_elim
@@ -187,7 +157,7 @@ change_step g (bars b p s m i new l had k other off by) = record {
   solved_after = now_second (λ h. grind arith) refl false≢true;
 }
 change_step g (allows b p s m new l had n by) = record {
-  playable_after = allow_playable g b p s m new false had by;
+  playable_after = move_playable g b p s m m new true (λ _. had) by.there by;
   target_after = λ t. now_same (λ (h, _). grind arith) (λ (h, _). grind arith);
   barred_after = λ q t i.
       ⊎_elim
@@ -197,7 +167,7 @@ change_step g (allows b p s m new l had n by) = record {
   solved_after = now_second (λ h. grind arith) refl false≢true;
 }
 change_step g (solves b sure almost rounds count more o) = record {
-  playable_after = λ ok. record { valid = ok.valid; kept_had = ok.kept_had; some_kept = ok.some_kept; few_kept = ok.few_kept };
+  playable_after = target_playable g b _;
   target_after = λ t. now_same (λ (h, _). grind arith) (λ (h, _). grind arith);
   barred_after = λ q t i. now_same (λ (h, _). grind arith) (λ (h, _). grind arith);
   solved_after = now_first refl refl;
@@ -331,50 +301,31 @@ verdict_law g valid {calls} {answers} {b} run s l = record {
     to_none : (mode : Mode) → GivesVerdicts calls answers → ((r : ℕ) → Rank (position g b) mode r s → ⊥) → Step g b (verdict mode s) not_winning b
     to_none mode v n = outcome_step g mode s l (of_none (known.1 v) n)
 
--- A move can be set in a byte, and a byte at a place.
-either : {A : Type 0} → ℕ → ℕ → Decided A → ℕ
-either m n (inl h) = m
-either m n (inr h) = n
-
-either_first : {A : Type 0} (m n : ℕ) (d : Decided A) → A → either m n d ≡ m
-unfolding either
-either_first m n (inl h) a = refl
-either_first m n (inr h) a = absurd (h a)
-
-either_second : {A : Type 0} (m n : ℕ) (d : Decided A) → (A → ⊥) → either m n d ≡ n
-unfolding either
-either_second m n (inl h) a = absurd (a h)
-either_second m n (inr h) a = refl
-
-bit_set_other : (c m i : ℕ) (v : Bool) → c < 256 → (i ≡ m → ⊥) → bit (weigh (with_state (bit c) m v) 8) i ≡ bit c i
-bit_set_other c m i v l off =
-    ⊎_elim
-    (λ h. bit_weigh (with_state (bit c) m v) 8 i h ∙ ⊎_elim (λ e. absurd (off (eqb-true i m e))) (λ e. ap (λ t. cond t v (bit c i)) e) (cases_Bool (eqb i m)))
-    (λ h. bit_past (weigh (with_state (bit c) m v) 8) 8 i (weigh_byte (with_state (bit c) m v) 8 (omega arith)) h ∙ sym (bit_past c 8 i l h))
-    (cases_lt i 8)
-
 move_set : (old : Player → ℕ → ℕ) (p : Player) (s m : ℕ) (v : Bool) → old p s < 256 → m < 8 → (new : Player → ℕ → ℕ) × MoveSet old new p s m v
 move_set old p s m v few l = (
   new,
   record {
     few = rw there (weigh_byte f 8 (omega arith));
-    there = rw there (bit_weigh f 8 m l ∙ ap (λ t. cond t v (bit (old p s) m)) (eq-eqb m m refl));
-    other_moves = λ i off. rw there (bit_set_other (old p s) m i v few off);
-    elsewhere = λ q t out. either_second (weigh f 8) (old q t) (here q t) out;
+    there = rw there (bit_byte f m (λ _. l) ∙ cond-true (eqb m m) v (bit (old p s) m) (eq-eqb m m refl));
+    other_moves = λ i off. rw there (bit_byte f i (small i) ∙ cond-false (eqb i m) v (bit (old p s) i) (ne_eqb i m off));
+    elsewhere = λ q t out. cond-false (test (here q t)) (weigh f 8) (old q t) (fails_test (here q t) out);
   },
 )
   where
     f : ℕ → Bool
     f = with_state (bit (old p s)) m v
 
+    small : (i : ℕ) → f i ≡ true → i < 8
+    small i e = grind (arith, nat_tests, bit_past (old p s) 8 i)
+
     here : (q : Player) (t : ℕ) → Decided ((q ≡ p) × (t ≡ s))
-    here q t = decided_and (same_player q p) (same_number t s)
+    here q t = decided_and (same_player q p) (cases_eq t s)
 
     new : Player → ℕ → ℕ
-    new q t = either (weigh f 8) (old q t) (here q t)
+    new q t = cond (test (here q t)) (weigh f 8) (old q t)
 
     there : new p s ≡ weigh f 8
-    there = either_first (weigh f 8) (old p s) (here p s) (refl, refl)
+    there = cond-true (test (here p s)) (weigh f 8) (old p s) (holds_test (here p s) (refl, refl))
 
 -- what is decided can be counted
 counted : (P : ℕ → Type 0) (n : ℕ) → ((s : ℕ) → Decided (P s)) → (k : ℕ) × Counts P n k
@@ -387,13 +338,13 @@ module _ (x : Position) (ok : Playable x) where
   handed_decided InSure (suc r) s h a =
       decided_by
       (λ (k, into). (r, h, k, into))
-      (λ (q, e, k, into). let is : q ≡ r = omega (arith, enters_one (sure_grows x ok) (suc r) (suc q) s h e) in (k, subst (λ i. Into x (Sure x i) s a) is into))
+      (sure_move_into x ok r s a h)
       (decided_and (decided_keeps x One s a) (decided_into ok (Sure x r) (upto_decided (sure_grows x ok) r) s a))
   handed_decided InAlmost r s h a =
       let (j, rounds, here) = ranked_almost x r s h in
       decided_by
       (λ (n, (k, into)). (n, (j, rounds, here, (k, into))))
-      (λ (n, (i, at_i, _, (k, into))). (n, (k, subst (λ q. Into x (Outer x q) s a) (rounds_unique x i j at_i rounds) into)))
+      (λ m. (m.0, (almost_move_at x j rounds s a m).1))
       (decided_and (decided_not (decided_target x s)) (decided_and (decided_keeps x One s a) (decided_into ok (Outer x j) (outer_decided ok j) s a)))
 
   handed_kept : (mode : Mode) (s a : ℕ) → Handed x mode s a → Keeps x One s a
@@ -402,19 +353,13 @@ module _ (x : Position) (ok : Playable x) where
 
   handed_byte : (mode : Mode) (r s : ℕ) → Rank x mode r s → (c : ℕ) × (c < 256) × ((a : ℕ) → (bit c a ≡ true → Handed x mode s a) × (Handed x mode s a → bit c a ≡ true))
   handed_byte mode r s h = (
-    weigh f 8,
-    small,
-    λ a. (
-      λ e. test_holds (handed_decided mode r s h a) (sym (bit_weigh f 8 a (bit_in_byte (weigh f 8) a small e)) ∙ e),
-      λ m. bit_weigh f 8 a (move_lt ok One s a (handed_kept mode s a m)) ∙ holds_test (handed_decided mode r s h a) m,
-    ),
+    weigh (λ a. test (d a)) 8,
+    weigh_byte (λ a. test (d a)) 8 (omega arith),
+    byte_decided (Handed x mode s) d (λ a m. move_lt ok One s a (handed_kept mode s a m)),
   )
     where
-      f : ℕ → Bool
-      f a = test (handed_decided mode r s h a)
-
-      small : weigh f 8 < 256
-      small = weigh_byte f 8 (omega arith)
+      d : (a : ℕ) → Decided (Handed x mode s a)
+      d = handed_decided mode r s h
 
 -- Every call has an answer.
 abbrev Answered : Game → Bench → Call → Type 0
@@ -437,9 +382,9 @@ module _ (g : Game) (b : Bench) (ok : Playable (position g b)) where
       ⊎_elim
       (λ k.
       ⊎_elim
-      (λ (i, _, (other, off)). let (new, h) = move_set b.kept p s m false (ok.few_kept p s) (move_lt ok p s m k) in (done, (_, bars b p s m i new l had k other off h)))
-      (λ none. refusal (bar p s m) (bare 4) (only_move p s m l had k (λ i other. ⊎_elim (λ e. e) (λ off. absurd (none i (move_lt ok p s i other) (other, off))) (same_number i m))))
-      (some_or_none 8 (λ i. Keeps (position g b) p s i × (i ≡ m → ⊥)) (λ i. Keeps (position g b) p s i × (i ≡ m → ⊥) → ⊥) (λ i _. decided_and (decided_keeps (position g b) p s i) (decided_not (same_number i m)))))
+      (λ only. refusal (bar p s m) (bare 4) (only_move p s m l had k only))
+      (λ (i, other, off). let (new, h) = move_set b.kept p s m false (ok.few_kept p s) (move_lt ok p s m k) in (done, (_, bars b p s m i new l had k other off h)))
+      (all_or_some_within 8 (Keeps (position g b) p s) (λ i. i ≡ m) (λ i. i ≡ m → ⊥) (move_lt ok p s) (decided_keeps (position g b) p s) (λ i. cases_eq i m)))
       (λ n. refusal (bar p s m) (bare 3) (barred_already p s m l had n))
       (cases_Bool (bit (b.kept p s) m)))
       (λ n. refusal (bar p s m) (with_value 2 m) (bar_no_move p s m l n))

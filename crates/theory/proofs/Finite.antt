@@ -1,15 +1,16 @@
 -- Bounded searches and decisions, and what is finite in a position.
-use Rattle.std.proofs.Common.{◌≡◌, ℕ, zero, suc, ◌*◌, ◌/◌, ◌%◌, ◌^◌, ◌<◌, ◌≤◌, Bool, true, false, eqb, ◌⊎◌, List, [], ◌∷◌, length, sym, refl, ap, ◌∙◌, subst, inl, inr, ⊎_elim, add-one, arith}
-use Rattle.std.proofs.lemmas.Nat.{pow_pos, pow-add, div_below, le-div}
-use Rattle.std.proofs.lemmas.Bool.{false≢true, both_ways, cases_Bool, cases_lt, eqb-true, eq-eqb, eqb-false, or_left, or_cases}
-use Rattle.game.specs.Below.{rank, bit, elem}
-use Rattle.game.specs.Games.{Ascends}
+use Rattle.std.proofs.Common.{◌≡◌, ℕ, zero, suc, ◌<◌, ◌≤◌, Bool, true, false, ◌⊎◌, sym, refl, ◌∙◌, inl, inr, ⊎_elim, add-one, arith, below_more}
+use Rattle.std.proofs.lemmas.Bool.{false≢true, both_ways, cases_Bool, cases_lt}
+use Rattle.game.specs.Below.{rank, bit, elem, weigh}
 use Rattle.game.specs.declared.player.Player.{Player}
 use Rattle.game.specs.declared.player.Player.TheVariants.{One, Two}
 use Rattle.game.proofs.Below.{rank_yes, rank_no, rank_zero, bit_zero, bit_in_byte}
+use Rattle.game.proofs.Members.{elem_within, place_elem}
+use Rattle.game.proofs.Digits.{byte_found, bit_byte}
 use Rattle.theory.specs.Positions.{Position, Playable, State, Keeps, Leads, Target}
 use Rattle.theory.specs.Layers.{Least}
 use Rattle.theory.specs.Verdicts.{Into, Forced}
+use Rattle.theory.specs.Laws.{Exactly}
 
 -- a statement with its proof or its refutation
 abbrev pub Decided : Type 0 → Type 0
@@ -65,36 +66,34 @@ decided_bool b = ⊎_elim inl (λ e. inr (both_ways b e)) (cases_Bool b)
 pub decided_lt : (m n : ℕ) → Decided (m < n)
 decided_lt m n = ⊎_elim inl (λ l. inr (λ h. omega arith)) (cases_lt m n)
 
--- what holds at each number below n and at n
-pub all_push : (P : ℕ → Type 0) (n : ℕ) → ((k : ℕ) → k < n → P k) → P n → (k : ℕ) → k < suc n → P k
-all_push P n h p k l = ⊎_elim (h k) (λ m. subst P (omega arith) p) (cases_lt k n)
-
 -- searches below n
 pub all_or_some : (n : ℕ) (P Q : ℕ → Type 0) → ((k : ℕ) → k < n → P k ⊎ Q k) → ((k : ℕ) → k < n → P k) ⊎ ((k : ℕ) × (k < n) × Q k)
 all_or_some zero P Q h = inl (λ k l. absurd (omega arith))
 all_or_some (suc n) P Q h =
     ⊎_elim
-    (λ all. ⊎_elim (λ p. inl (all_push P n all p)) (λ q. inr (n, omega arith, q)) (h n (omega arith)))
+    (λ all. ⊎_elim (λ p. inl (λ k l. below_more P n all p k (omega arith))) (λ q. inr (n, omega arith, q)) (h n (omega arith)))
     (λ (k, l, q). inr (k, omega arith, q))
     (all_or_some n P Q (λ k l. h k (omega arith)))
-
-pub some_or_none : (n : ℕ) (P Q : ℕ → Type 0) → ((k : ℕ) → k < n → P k ⊎ Q k) → ((k : ℕ) × (k < n) × P k) ⊎ ((k : ℕ) → k < n → Q k)
-some_or_none n P Q h = ⊎_elim inr inl (all_or_some n Q P (λ k l. ⊎_elim inr inl (h k l)))
 
 pub decided_all : (n : ℕ) (P : ℕ → Type 0) → ((k : ℕ) → k < n → Decided (P k)) → Decided ((k : ℕ) → k < n → P k)
 decided_all n P h = ⊎_elim inl (λ (k, l, m). inr (λ all. m (all k l))) (all_or_some n P (λ k. P k → ⊥) h)
 
 pub decided_some : (n : ℕ) (P : ℕ → Type 0) → ((k : ℕ) → k < n → Decided (P k)) → Decided ((k : ℕ) × (k < n) × P k)
-decided_some n P h = ⊎_elim inl (λ none. inr (λ (k, l, p). none k l p)) (some_or_none n P (λ k. P k → ⊥) h)
+decided_some n P h = ⊎_elim (λ none. inr (λ (k, l, p). none k l p)) inl (all_or_some n (λ k. P k → ⊥) P (λ k l. ⊎_elim inr inl (h k l)))
 
--- the same where only numbers below n count
+-- the same among the numbers with A, which are below n
+pub all_or_some_within : (n : ℕ) (A P Q : ℕ → Type 0) → ((k : ℕ) → A k → k < n) → ((k : ℕ) → Decided (A k)) → ((k : ℕ) → P k ⊎ Q k) → ((k : ℕ) → A k → P k) ⊎ ((k : ℕ) × A k × Q k)
+all_or_some_within n A P Q within da d =
+    ⊎_elim
+    (λ all. inl (λ k a. all k (within k a) a))
+    (λ (k, _, (a, q)). inr (k, a, q))
+    (all_or_some n (λ k. A k → P k) (λ k. A k × Q k) (λ k _. ⊎_elim (λ a. ⊎_elim (λ p. inl (λ _. p)) (λ q. inr (a, q)) (d k)) (λ f. inl (λ a. absurd (f a))) (da k)))
+
 pub decided_all_within : (n : ℕ) (A P : ℕ → Type 0) → ((k : ℕ) → A k → k < n) → ((k : ℕ) → Decided (A k)) → ((k : ℕ) → Decided (P k)) → Decided ((k : ℕ) → A k → P k)
-decided_all_within n A P within da dp =
-    decided_by (λ h k a. h k (within k a) a) (λ h k l a. h k a) (decided_all n (λ k. A k → P k) (λ k l. decided_to (da k) (dp k)))
+decided_all_within n A P within da dp = ⊎_elim inl (λ (k, a, m). inr (λ all. m (all k a))) (all_or_some_within n A P (λ k. P k → ⊥) within da dp)
 
 pub decided_some_within : (n : ℕ) (A P : ℕ → Type 0) → ((k : ℕ) → A k → k < n) → ((k : ℕ) → Decided (A k)) → ((k : ℕ) → Decided (P k)) → Decided ((k : ℕ) × A k × P k)
-decided_some_within n A P within da dp =
-    decided_by (λ (k, l, (a, p)). (k, a, p)) (λ (k, a, p). (k, within k a, (a, p))) (decided_some n (λ k. A k × P k) (λ k l. decided_and (da k) (dp k)))
+decided_some_within n A P within da dp = ⊎_elim (λ none. inr (λ (k, a, p). none k a p)) inl (all_or_some_within n A (λ k. P k → ⊥) P within da (λ k. ⊎_elim inr inl (dp k)))
 
 -- the least number with a decided property
 pub least_below : (n : ℕ) (P : ℕ → Type 0) → ((k : ℕ) → Decided (P k)) → ((k : ℕ) × (k < n) × Least P k) ⊎ ((k : ℕ) → k < n → P k → ⊥)
@@ -102,71 +101,34 @@ least_below zero P d = inr (λ k l. absurd (omega arith))
 least_below (suc n) P d =
     ⊎_elim
     (λ (k, l, h). inl (k, omega arith, h))
-    (λ none. ⊎_elim (λ p. inl (n, omega arith, (p, none))) (λ m. inr (all_push (λ k. P k → ⊥) n none m)) (d n))
+    (λ none. ⊎_elim (λ p. inl (n, omega arith, (p, none))) (λ m. inr (λ k l. below_more (λ k. P k → ⊥) n none m k (omega arith))) (d n))
     (least_below n P d)
 
 pub least : (P : ℕ → Type 0) → ((k : ℕ) → Decided (P k)) → (n : ℕ) → P n → (k : ℕ) × (k ≤ n) × Least P k
 least P d n p = ⊎_elim (λ (k, l, h). (k, omega arith, h)) (λ none. absurd (none n (omega arith) p)) (least_below (suc n) P d)
 
 pub least_one : (P : ℕ → Type 0) (j k : ℕ) → Least P j → Least P k → j ≡ k
-least_one P j k a b = ⊎_elim (λ l. absurd (b.1 j l a.0)) (λ l. ⊎_elim (λ m. absurd (a.1 k m b.0)) (λ m. omega arith) (cases_lt k j)) (cases_lt j k)
+least_one P j k a b = grind (arith, b.1 j, a.1 k, a.0, b.0)
 
 -- a set with all members of another below n, and with one more
 rank_within : (p q : ℕ → Bool) (n : ℕ) → ((k : ℕ) → k < n → p k ≡ true → q k ≡ true) → rank p n ≤ rank q n
 rank_within p q zero h = omega (arith, rank_zero p, rank_zero q)
 rank_within p q (suc n) h =
     let ih = rank_within p q n (λ k l. h k (omega arith)) in
-    rw (← (add-one n)) (
-    ⊎_elim
-    (λ e. omega (arith, rank_yes p n e, rank_yes q n (h n (omega arith) e)))
-    (λ e. ⊎_elim (λ f. omega (arith, rank_no p n e, rank_yes q n f)) (λ f. omega (arith, rank_no p n e, rank_no q n f)) (cases_Bool (q n)))
-    (cases_Bool (p n)))
+    rw (← (add-one n)) (grind (arith, rank_yes p n, rank_no p n, rank_yes q n, rank_no q n, h n))
 
 pub rank_more : (p q : ℕ → Bool) (n m : ℕ) → ((k : ℕ) → k < n → p k ≡ true → q k ≡ true) → m < n → p m ≡ false → q m ≡ true → rank p n < rank q n
 rank_more p q zero m h l e f = absurd (omega arith)
 rank_more p q (suc n) m h l e f =
-    rw (← (add-one n)) (
-    ⊎_elim
-    (λ a.
-    let ih = rank_more p q n m (λ k l. h k (omega arith)) a e f in
-    ⊎_elim
-    (λ e. omega (arith, rank_yes p n e, rank_yes q n (h n (omega arith) e)))
-    (λ e. ⊎_elim (λ f. omega (arith, rank_no p n e, rank_yes q n f)) (λ f. omega (arith, rank_no p n e, rank_no q n f)) (cases_Bool (q n)))
-    (cases_Bool (p n)))
-    (λ b.
-    let is : m ≡ n = omega arith in
-    omega (arith, rank_within p q n (λ k l. h k (omega arith)), rank_no p n (ap p (sym is) ∙ e), rank_yes q n (ap q (sym is) ∙ f)))
-    (cases_lt m n))
+    let within = rank_within p q n (λ k l. h k (omega arith)) in
+    let ih : m < n → rank p n < rank q n = λ a. rank_more p q n m (λ k l. h k (omega arith)) a e f in
+    rw (← (add-one n)) (grind (arith, rank_yes p n, rank_no p n, rank_yes q n, rank_no q n, h n))
 
--- members of a list
-elem_within : (s m n : ℕ) (xs : List ℕ) → Ascends m n xs → elem s xs ≡ true → s < n
-unfolding elem
-elem_within s m n [] h e = absurd (false≢true e)
-elem_within s m n (x ∷ xs) h e = ⊎_elim (λ a. omega (arith, eqb-true s x a, h.1)) (elem_within s (suc x) n xs h.2) (or_cases (eqb s x) (elem s xs) e)
-
-elem_some : (xs : List ℕ) → 1 ≤ length xs → (s : ℕ) × (elem s xs ≡ true)
-unfolding elem
-elem_some [] h = absurd (omega arith)
-elem_some (x ∷ xs) h = (x, or_left (eqb x x) (elem x xs) (eq-eqb x x refl))
-
-pow_suc_two : (k : ℕ) → 2 ^ suc k ≡ 2 * 2 ^ k
-pow_suc_two k = rw (← (add-one k)) (rw (pow-add 2 k 1) (omega arith))
-
--- a number with no bit is 0
-bit_none : (k c : ℕ) → c < 2 ^ k → ((m : ℕ) → m < k → bit c m ≡ false) → c ≡ 0
-bit_none zero c h none = omega arith
-bit_none (suc k) c h none =
-    let off = eqb-false (c / 2 ^ k % 2) 1 (none k (omega arith)) in
-    let half : c / 2 ^ k < 2 = div_below c (2 ^ k) 2 (pow_pos k) (omega (arith, pow_suc_two k)) in
-    let low : c < 2 ^ k = ⊎_elim (λ l. l) (λ l. absurd (omega (arith, le-div 1 c (2 ^ k) (pow_pos k) (omega arith)))) (cases_lt c (2 ^ k)) in
-    bit_none k c low (λ m l. none m (omega arith))
-
-bit_found : (c : ℕ) → 1 ≤ c → c < 256 → (m : ℕ) × (bit c m ≡ true)
-bit_found c l h =
-    ⊎_elim
-    (λ none. absurd (omega (arith, bit_none 8 c h none)))
-    (λ (m, _, e). (m, e))
-    (all_or_some 8 (λ m. bit c m ≡ false) (λ m. bit c m ≡ true) (λ m _. ⊎_elim inr inl (cases_Bool (bit c m))))
+-- the byte of a decided set of numbers below 8
+pub byte_decided : (P : ℕ → Type 0) (d : (i : ℕ) → Decided (P i)) → ((i : ℕ) → P i → i < 8) → (i : ℕ) → Exactly (bit (weigh (λ i. test (d i)) 8) i ≡ true) (P i)
+byte_decided P d small i =
+    let is = bit_byte (λ i. test (d i)) i (λ e. small i (test_holds (d i) e)) in
+    (λ e. test_holds (d i) (sym is ∙ e), λ h. is ∙ holds_test (d i) h)
 
 module _ (x : Position) where
   pub decided_state : (s : ℕ) → Decided (State x s)
@@ -186,20 +148,16 @@ module _ {x : Position} (ok : Playable x) where
   move_lt p s m = bit_in_byte (x.kept p s) m (ok.few_kept p s)
 
   pub leads_state : (s a b t : ℕ) → Leads x s a b t → State x t
-  leads_state s a b t = elem_within t 0 x.game.size (x.game.support s a b) (ok.valid.ascends s a b)
+  leads_state s a b t = λ m. (elem_within t 0 x.game.size (x.game.support s a b) (ok.valid.ascends s a b) m).1
 
   pub keeps_state : (p : Player) (s m : ℕ) → Keeps x p s m → State x s
-  keeps_state p s m e =
-      ⊎_elim
-      (λ l. l)
-      (λ l. absurd (both_ways (bit (x.game.choices p s) m) (ap (λ c. bit c m) (ok.valid.no_move p s l) ∙ bit_zero m) (ok.kept_had p s m e)))
-      (cases_lt s x.game.size)
+  keeps_state p s m e = grind (arith, ok.kept_had p s m, ok.valid.no_move p s, bit_zero m)
 
   pub kept_some : (p : Player) (s : ℕ) → State x s → (m : ℕ) × Keeps x p s m
-  kept_some p s h = bit_found (x.kept p s) (ok.some_kept p s h) (ok.few_kept p s)
+  kept_some p s h = byte_found (x.kept p s) (ok.some_kept p s h) (ok.few_kept p s)
 
   pub next_some : (s a b : ℕ) → Keeps x One s a → Keeps x Two s b → (t : ℕ) × Leads x s a b t
-  next_some s a b h l = elem_some (x.game.support s a b) (ok.valid.some_next s a b (ok.kept_had One s a h, ok.kept_had Two s b l))
+  next_some s a b h l = (_, place_elem (x.game.support s a b) 0 (ok.valid.some_next s a b (ok.kept_had One s a h, ok.kept_had Two s b l)))
 
   -- each move of player 1 leads somewhere
   pub into_some : (X : ℕ → Type 0) (s a : ℕ) → Keeps x One s a → Into x X s a → (t : ℕ) × X t
@@ -220,23 +178,5 @@ module _ {x : Position} (ok : Playable x) where
   -- a move into X, or a reply to it and a successor out of X
   pub into_or_reply : (X Y : ℕ → Type 0) → ((t : ℕ) → X t ⊎ Y t) → (s a : ℕ) → Into x X s a ⊎ ((b : ℕ) × Keeps x Two s b × ((t : ℕ) × Leads x s a b t × Y t))
   into_or_reply X Y d s a =
-      ⊎_elim
-      (λ h. inl (λ b l t m. h b (move_lt Two s b l) l t (leads_state s a b t m) m))
-      (λ (b, _, f). inr f)
-      (all_or_some 8
-      (λ b. Keeps x Two s b → (t : ℕ) → t < x.game.size → Leads x s a b t → X t)
-      (λ _. (b : ℕ) × Keeps x Two s b × ((t : ℕ) × Leads x s a b t × Y t))
-      (λ b _.
-      ⊎_elim
-      (λ l.
-      ⊎_elim
-      (λ h. inl (λ _. h))
-      (λ (t, _, (m, y)). inr (b, l, (t, m, y)))
-      (all_or_some x.game.size (λ t. Leads x s a b t → X t) (λ t. Leads x s a b t × Y t)
-      (λ t _.
-      ⊎_elim
-      (λ m. ⊎_elim (λ i. inl (λ _. i)) (λ y. inr (m, y)) (d t))
-      (λ m. inl (λ i. absurd (m i)))
-      (decided_leads x s a b t))))
-      (λ l. inl (λ i. absurd (l i)))
-      (decided_keeps x Two s b)))
+      all_or_some_within 8 (Keeps x Two s) (λ b. (t : ℕ) → Leads x s a b t → X t) (λ b. (t : ℕ) × Leads x s a b t × Y t) (move_lt Two s) (decided_keeps x Two s)
+      (λ b. all_or_some_within x.game.size (Leads x s a b) X Y (leads_state s a b) (decided_leads x s a b) d)

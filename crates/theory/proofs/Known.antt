@@ -1,7 +1,8 @@
 -- The known games, by computation.
-use Rattle.std.proofs.Common.{◌≡◌, ℕ, ◌<◌, ◌≤◌, Bool, true, false, cond, not, ◌&&◌, ◌||◌, eqb, ltb, List, [], ◌∷◌, length, get_or, Some, None, refl, ap, ◌∙◌, ⊎_elim, arith}
+use Rattle.std.proofs.Common.{◌≡◌, ℕ, ◌<◌, ◌≤◌, Bool, true, false, cond, not, ◌&&◌, ◌||◌, eqb, ltb, List, [], ◌∷◌, length, get_or, Some, None, refl, ⊎_elim, arith}
 use Rattle.std.proofs.lemmas.List.{get_or_past}
-use Rattle.std.proofs.lemmas.Bool.{both_ways, cases_Bool, cases_lt, ltb-true, eqb-true, and_parts, and_from, or_cases, not-true}
+use Rattle.std.proofs.lemmas.Bool.{cases_lt, ltb-true, eqb-true, and_parts, and_from}
+use Rattle.std.proofs.lemmas.Bool.Decides.{nat_tests}
 use Rattle.game.specs.Below.{below, bit, elem, weigh}
 use Rattle.game.specs.Games.{Game, WellFormed}
 use Rattle.game.specs.declared.player.Player.{Player}
@@ -31,7 +32,11 @@ kept_at : ℕ → ℕ → Bool
 kept_at c k = ltb 0 k && (ltb k 256 && each (λ m. not (bit k m) || bit c m) 8)
 
 then_true : (x y : Bool) → (not x || y) ≡ true → x ≡ true → y ≡ true
-then_true x y e h = ⊎_elim (λ a. absurd (both_ways x (not-true x a) h)) (λ a. a) (or_cases (not x) y e)
+then_true x y e h = grind arith
+
+-- a nonempty byte that passes a test
+byte_parts : (c : ℕ) (b : Bool) → (ltb 0 c && (ltb c 256 && b)) ≡ true → (0 < c) × (c < 256) × (b ≡ true)
+byte_parts c b e = (grind (arith, nat_tests), grind (arith, nat_tests), grind (arith, nat_tests))
 
 module _ (sets : List ℕ) (leads : ℕ → ℕ → ℕ → ℕ → Bool) (some_state : 1 ≤ length sets) (few_states : length sets ≤ 256)
     (sound : each (λ s. sound_at (game_of sets leads) (get_or sets s 0) s) (length sets) ≡ true) where
@@ -41,19 +46,17 @@ module _ (sets : List ℕ) (leads : ℕ → ℕ → ℕ → ℕ → Bool) (some_
       let c : ℕ = get_or sets s 0 in
       let next : ℕ → ℕ → Bool = λ a b. ltb 0 (length ((game_of sets leads).support s a b)) in
       let inner : ℕ → Bool = λ a. each (λ b. not (bit c a && bit c b) || next a b) 8 in
-      let (e, f) = and_parts (ltb 0 c) (ltb c 256 && each inner 8) (each_holds (λ s. sound_at (game_of sets leads) (get_or sets s 0) s) (length sets) sound s l) in
-      let (g, h) = and_parts (ltb c 256) (each inner 8) f in
-      let small : c < 256 = ltb-true c 256 g in (
-        ltb-true 0 c e,
+      let (some, small, all) = byte_parts c (each inner 8) (each_holds (λ s. sound_at (game_of sets leads) (get_or sets s 0) s) (length sets) sound s l) in (
+        some,
         small,
         λ a b i j.
-            let at_a = each_holds inner 8 h a (bit_in_byte c a small i) in
+            let at_a = each_holds inner 8 all a (bit_in_byte c a small i) in
             let at_b = each_holds (λ b. not (bit c a && bit c b) || next a b) 8 at_a b (bit_in_byte c b small j) in
             ltb-true 0 (length ((game_of sets leads).support s a b)) (then_true (bit c a && bit c b) (next a b) at_b (and_from (bit c a) (bit c b) i j)),
       )
 
   bit_state : (s m : ℕ) → bit (get_or sets s 0) m ≡ true → s < length sets
-  bit_state s m e = ⊎_elim (λ l. l) (λ l. absurd (both_ways (bit (get_or sets s 0) m) (ap (λ c. bit c m) (get_or_past sets s 0 l) ∙ bit_zero m) e)) (cases_lt s (length sets))
+  bit_state s m e = grind (arith, get_or_past sets s 0, bit_zero m)
 
   well_formed : WellFormed (game_of sets leads)
   well_formed = record {
@@ -66,11 +69,8 @@ module _ (sets : List ℕ) (leads : ℕ → ℕ → ℕ → ℕ → Bool) (some_
     ascends = λ s a b. ascends_below (λ t. bit (get_or sets s 0) a && (bit (get_or sets s 0) b && leads s a b t)) (length sets);
     no_next = λ s a b off.
         let c : ℕ = get_or sets s 0 in
-        below_none (λ t. bit c a && (bit c b && leads s a b t)) (length sets) (λ t _.
-        ⊎_elim
-        (λ e. let (i, j) = and_parts (bit c a) (bit c b && leads s a b t) e in absurd (off (i, (and_parts (bit c b) (leads s a b t) j).0)))
-        (λ e. e)
-        (cases_Bool (bit c a && (bit c b && leads s a b t))));
+        let none : bit c a ≡ true → bit c b ≡ true → ⊥ = λ e f. off (e, f) in
+        below_none (λ t. bit c a && (bit c b && leads s a b t)) (length sets) (λ t _. grind arith);
   }
 
   module _ (ks : Player → List ℕ) (target : ℕ → Bool) (same : (p : Player) → length (ks p) ≡ length sets)
@@ -81,10 +81,8 @@ module _ (sets : List ℕ) (leads : ℕ → ℕ → ℕ → ℕ → Bool) (some_
         let c : ℕ = get_or sets s 0 in
         let k : ℕ = get_or (ks p) s 0 in
         let inner : ℕ → Bool = λ m. not (bit k m) || bit c m in
-        let (e, f) = and_parts (ltb 0 k) (ltb k 256 && each inner 8) (each_holds (λ s. kept_at (get_or sets s 0) (get_or (ks p) s 0)) (length sets) (keeps p) s l) in
-        let (g, h) = and_parts (ltb k 256) (each inner 8) f in
-        let small : k < 256 = ltb-true k 256 g in
-        (ltb-true 0 k e, small, λ m i. then_true (bit k m) (bit c m) (each_holds inner 8 h m (bit_in_byte k m small i)) i)
+        let (some, small, all) = byte_parts k (each inner 8) (each_holds (λ s. kept_at (get_or sets s 0) (get_or (ks p) s 0)) (length sets) (keeps p) s l) in
+        (some, small, λ m i. then_true (bit k m) (bit c m) (each_holds inner 8 all m (bit_in_byte k m small i)) i)
 
     playable : Playable (record { game = game_of sets leads; kept = λ p s. get_or (ks p) s 0; target = target })
     playable = record {
@@ -92,7 +90,7 @@ module _ (sets : List ℕ) (leads : ℕ → ℕ → ℕ → ℕ → Bool) (some_
       kept_had = λ p s m e.
           ⊎_elim
           (λ l. (kept_state p s l).2 m e)
-          (λ l. absurd (both_ways (bit (get_or (ks p) s 0) m) (ap (λ c. bit c m) (get_or_past (ks p) s 0 (omega (arith, same p))) ∙ bit_zero m) e))
+          (λ l. absurd (grind (arith, get_or_past (ks p) s 0, same p, bit_zero m)))
           (cases_lt s (length sets));
       some_kept = λ p s l. (kept_state p s l).0;
       few_kept = λ p s. ⊎_elim (λ l. (kept_state p s l).1) (λ l. omega (arith, get_or_past (ks p) s 0 (omega (arith, same p)))) (cases_lt s (length sets));

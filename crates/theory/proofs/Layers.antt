@@ -23,13 +23,16 @@ module _ (start : ℕ → Type 0) (step : (ℕ → Type 0) → ℕ → Type 0) w
   upto_later j (suc k) s l h =
       ⊎_elim (λ a. inl (upto_later j k s (omega arith) h)) (λ a. subst (λ i. Upto start step i s) {y = suc k} (omega arith) h) (cases_lt j (suc k))
 
+  pub upto_below : {n : ℕ} → ((s : ℕ) → start s → s < n) → ((X : ℕ → Type 0) (s : ℕ) → step X s → s < n) → (k s : ℕ) → Upto start step k s → s < n
+  upto_below start_lt step_lt zero s h = start_lt s h
+  upto_below start_lt step_lt (suc k) s h = ⊎_elim (upto_below start_lt step_lt k s) (step_lt (Upto start step k) s) h
+
 module _ {n : ℕ} {start : ℕ → Type 0} {step : (ℕ → Type 0) → ℕ → Type 0} (g : Grows n start step) where
   pub upto_more : (j k s : ℕ) → j ≤ k → Upto start step j s → Upto start step k s
   upto_more = upto_later start step
 
   pub upto_lt : (k s : ℕ) → Upto start step k s → s < n
-  upto_lt zero s h = g.start_lt s h
-  upto_lt (suc k) s h = ⊎_elim (upto_lt k s) (g.step_lt (Upto start step k) s) h
+  upto_lt = upto_below start step g.start_lt g.step_lt
 
   pub upto_decided : (k s : ℕ) → Decided (Upto start step k s)
   upto_decided zero s = g.start_decided s
@@ -41,12 +44,9 @@ module _ {n : ℕ} {start : ℕ → Type 0} {step : (ℕ → Type 0) → ℕ →
   pub enters_one : (j k s : ℕ) → Enters (Upto start step) j s → Enters (Upto start step) k s → j ≡ k
   enters_one j k s = least_one (λ i. Upto start step i s) j k
 
-  -- where a state enters: above j if it is in no layer up to j, else at most at j
-  pub enters_above : (j k s : ℕ) → (Upto start step j s → ⊥) → Enters (Upto start step) k s → j < k
-  enters_above j k s a h = ⊎_elim (λ l. l) (λ l. absurd (a (upto_more k j s l h.0))) (cases_lt j k)
-
+  -- a state in a layer up to j enters at most at j
   pub enters_within : (j k s : ℕ) → Upto start step j s → Enters (Upto start step) k s → k ≤ j
-  enters_within j k s a h = ⊎_elim (λ l. absurd (h.1 j l a)) (λ l. l) (cases_lt j k)
+  enters_within j k s a h = grind (arith, h.1 j, a)
 
   -- a state in a layer up to k + 1 and in none up to k enters at k + 1
   pub enters_next : (k s : ℕ) → Upto start step (suc k) s → (Upto start step k s → ⊥) → Enters (Upto start step) (suc k) s

@@ -1,13 +1,12 @@
 -- The outer rounds as they are worked out: a set told by a list of ranks, the ranks of its levels, and the next set.
-use Rattle.std.proofs.Common.{◌≡◌, ℕ, zero, suc, ◌+◌, ◌<◌, ◌≤◌, true, List, length, set, Some, None, Option, sym, ap, ◌∙◌, subst, inl, inr, ⊎_elim, add-one, arith}
-use Rattle.std.proofs.lemmas.List.{get_or-set_same, get_or-set_other}
-use Rattle.std.proofs.lemmas.Bool.{false≢true, cases_lt, cases_eq, le-leb}
+use Rattle.std.proofs.Common.{◌≡◌, ℕ, zero, suc, ◌+◌, ◌<◌, ◌≤◌, true, List, Some, None, Option, subst, inl, inr, add-one, arith, below_more}
+use Rattle.std.proofs.lemmas.Bool.{false≢true, le-leb}
 use Rattle.theory.specs.Laws.{Exactly}
 use Rattle.theory.specs.Layers.{Enters}
 use Rattle.theory.specs.Positions.{Position, Playable, State}
 use Rattle.theory.specs.Ranking.{rank_at, up_to, Within, RankFull}
 use Rattle.theory.specs.Verdicts.{Touches, Level, Outer, Settled, OuterRounds}
-use Rattle.theory.proofs.Finite.{decided_bool, all_push}
+use Rattle.theory.proofs.Finite.{decided_bool}
 use Rattle.theory.proofs.Layers.{enters_lt}
 use Rattle.theory.proofs.Rounds.{outer_state, touches_mono, touches_grows, rounds_within}
 
@@ -15,21 +14,6 @@ use Rattle.theory.proofs.Rounds.{outer_state, touches_mono, touches_grows, round
 pub ranked_within : (layers : ℕ → ℕ → Type 0) (s : ℕ) (v : Option ℕ) → ((r : ℕ) → Enters layers r s → r ≤ 255) → RankFull layers s v → Exactly (up_to 255 v ≡ true) ((k : ℕ) × layers k s)
 ranked_within layers s None few full = (λ e. absurd (false≢true e), λ (k, h). absurd (full k h))
 ranked_within layers s (Some r) few full = (λ _. (r, full.0), λ _. le-leb r 255 (few r full))
-
--- the set of all states, made one state at a time: each state below n has a rank, and no other
-pub first_none : (ranks : List (Option ℕ)) → ((s : ℕ) → rank_at ranks s ≡ None) → (s : ℕ) → Exactly (Within ranks 255 s) (s < 0)
-first_none ranks none s = (λ w. absurd (false≢true (ap (up_to 255) (sym (none s)) ∙ w)), λ l. absurd (omega arith))
-
-pub first_more : (ranks : List (Option ℕ)) (n : ℕ) → n < length ranks → ((s : ℕ) → Exactly (Within ranks 255 s) (s < n)) → (s : ℕ) → Exactly (Within (set ranks n (Some 0)) 255 s) (s < n + 1)
-first_more ranks n l first s =
-    ⊎_elim
-    (λ is.
-    let here : Within (set ranks n (Some 0)) 255 s = ap (up_to 255) (ap (rank_at (set ranks n (Some 0))) is ∙ get_or-set_same ranks n (Some 0) None l) in
-    (λ _. omega arith, λ _. here))
-    (λ off.
-    let same = ap (up_to 255) (get_or-set_other ranks n s (Some 0) None off) in
-    (λ w. omega (arith, (first s).0 (sym same ∙ w)), λ m. same ∙ (first s).1 (omega arith)))
-    (cases_eq s n)
 
 module _ (x : Position) where
   -- a larger set has larger levels
@@ -78,11 +62,11 @@ module _ {x : Position} (ok : Playable x) {j : ℕ} {outer inner : List (Option 
 
   -- the next round, of the set of all states that have a rank
   pub round_next : {new next : List (Option ℕ)} → new ≡ inner → (((s : ℕ) → s < 256 → Within outer 255 s → Within inner 255 s) → ⊥) → ((s : ℕ) → RankFull (Level x (Within new 255)) s (rank_at next s)) → Round x (j + 1) new next
-  round_next is uncovered full = rw (add-one j) (record {
-    set = λ s. rw is (round_set s);
+  round_next is uncovered full = record {
+    set = λ s. rw (add-one j, is) (round_set s);
     levels = full;
-    before = all_push (λ i. Settled x i → ⊥) j round.before (λ h. uncovered (round_settled.1 h));
-  })
+    before = below_more (λ i. Settled x i → ⊥) j round.before (λ h. uncovered (round_settled.1 h));
+  }
 
   -- the last round: each state of the set has a rank, or as many rounds went before as a game can have states
   pub round_covered : ((s : ℕ) → s < 256 → Within outer 255 s → Within inner 255 s) → OuterRounds x j
@@ -91,7 +75,4 @@ module _ {x : Position} (ok : Playable x) {j : ℕ} {outer inner : List (Option 
   pub round_last : 256 ≤ j → OuterRounds x j
   round_last l =
       let (k, m, rounds) = rounds_within ok in
-      ⊎_elim
-      (λ n. absurd (round.before k n rounds.0))
-      (λ n. subst (OuterRounds x) (omega (arith, ok.valid.few_states)) rounds)
-      (cases_lt k j)
+      subst (OuterRounds x) (grind (arith, round.before k, rounds.0, ok.valid.few_states)) rounds

@@ -45,10 +45,7 @@ module _ (x : Position) (r : ℕ) where
       let way = played_on s rank run g in
       ⊎_elim
       (λ m. m)
-      (λ w.
-      let none : w.0 ≡ 0 = omega (arith, w.1) in
-      let here : Sure x 0 (resting p).state = subst (λ q. Sure x q (resting p).state) none w.2 in
-      way.0 here.1)
+      (λ (q, l, h). way.0 (subst (λ q. Sure x q (resting p).state) {y = 0} (omega arith) h).1)
       way.1
 
 pub arrives : (x : Position) → Arrives x

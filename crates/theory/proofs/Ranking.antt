@@ -1,7 +1,8 @@
 -- Ranks told sweep by sweep: what a list of ranks says of the layers so far, one turn of a sweep, and when the ranks say all.
-use Rattle.std.proofs.Common.{◌≡◌, ℕ, zero, suc, ◌+◌, ◌<◌, ◌≤◌, Bool, true, false, ◌⊎◌, List, length, set, Some, None, Option, sym, ap, ◌∙◌, subst, inr, ⊎_elim, add-one, arith, below_none, below_more}
+use Rattle.std.proofs.Common.{◌≡◌, ℕ, ◌+◌, ◌<◌, ◌≤◌, Bool, true, false, ◌⊎◌, List, length, set, Some, None, Option, inr, ⊎_elim, add-one, arith, below_none, below_more}
 use Rattle.std.proofs.lemmas.List.{get_or-set_same, get_or-set_other}
-use Rattle.std.proofs.lemmas.Bool.{true≢false, false≢true, both_ways, cases_Bool, cases_lt, leb-true, leb-false, le-leb}
+use Rattle.std.proofs.lemmas.Bool.{true≢false, false≢true, cases_Bool, cases_lt, leb-true, leb-false}
+use Rattle.std.proofs.lemmas.Bool.Decides.{nat_tests}
 use Rattle.game.specs.declared.player.Player.TheVariants.{One, Two}
 use Rattle.theory.specs.Laws.{Exactly}
 use Rattle.theory.specs.Layers.{Upto, Enters}
@@ -9,9 +10,9 @@ use Rattle.theory.specs.Positions.{Position, Playable, State, Keeps, Leads, Targ
 use Rattle.theory.specs.Ranking.{rank_at, up_to, Within, step_of, layers_of, RankUpto, RankFull}
 use Rattle.theory.specs.Verdicts.{Forced, Touches}
 use Rattle.theory.proofs.Finite.{decided_bool}
-use Rattle.theory.proofs.Layers.{Grows, upto_later, upto_enters, upto_stops, enters_lt}
+use Rattle.theory.proofs.Layers.{Grows, upto_later, upto_enters, upto_stops, enters_lt, upto_below}
 use Rattle.theory.proofs.Rounds.{touches_mono, touches_grows}
-use Rattle.theory.proofs.Sure.{sure_grows}
+use Rattle.theory.proofs.Sure.{sure_grows, forced_more}
 
 -- What layers have before anything is known of the moves kept: their members are below n, they grow, and the step makes the next one.
 -- The step grows with the set, and so sees a set by its members alone.
@@ -34,7 +35,7 @@ module _ {n : ℕ} {step : (ℕ → Type 0) → ℕ → Type 0} {layers : ℕ �
   rank_within j k s None b h = (λ e. absurd (false≢true e), λ a. absurd (h (l.later j k s b a)))
   rank_within j k s (Some r) b h = (
     λ e. l.later r j s (leb-true r j e) h.1.0,
-    λ a. le-leb r j (⊎_elim (λ m. absurd (h.1.1 j m a)) (λ m. m) (cases_lt j r)),
+    λ a. grind (arith, nat_tests, h.1.1 j, a),
   )
 
   -- a state that has a rank is below n
@@ -63,7 +64,7 @@ module _ {n : ℕ} {step : (ℕ → Type 0) → ℕ → Type 0} {layers : ℕ �
   -- a state in the layers up to k + 1 whose rank is not k + 1 is in those up to k
   pub rank_lower : (k s : ℕ) (v : Option ℕ) → RankUpto layers (k + 1) s v → (v ≡ Some (k + 1) → ⊥) → layers (k + 1) s → layers k s
   rank_lower k s None h off a = absurd (h a)
-  rank_lower k s (Some r) h off a = l.later r k s (⊎_elim (λ b. absurd (off (ap Some (omega (arith, h.0))))) (λ b. b) (cases_lt k r)) h.1.0
+  rank_lower k s (Some r) h off a = l.later r k s (grind (arith, h.0, off)) h.1.0
 
   -- from n on there are no ranks, whatever the level
   rank_past : (j k s : ℕ) (v : Option ℕ) → n ≤ s → RankUpto layers j s v → RankUpto layers k s v
@@ -111,9 +112,9 @@ module _ {n : ℕ} {step : (ℕ → Type 0) → ℕ → Type 0} {layers : ℕ �
           let here = enters_by level i out (l.step_more (Within ranks level) (layers level) (λ s. (swept_within s).0) i a) in
           record {
             seen = below_more _ i
-                (λ s m. subst (RankUpto layers (level + 1) s) (sym (get_or-set_other ranks i s (Some (level + 1)) None (omega arith))) (h.seen s m))
-                (subst (RankUpto layers (level + 1) i) (sym (get_or-set_same ranks i (Some (level + 1)) None k)) (omega arith, here));
-            unseen = λ s m. subst (RankUpto layers level s) (sym (get_or-set_other ranks i s (Some (level + 1)) None (omega arith))) (h.unseen s (omega arith));
+                (λ s m. rw (get_or-set_other ranks i s (Some (level + 1)) None (omega arith)) (h.seen s m))
+                (rw (get_or-set_same ranks i (Some (level + 1)) None k) (omega arith, here));
+            unseen = λ s m. rw (get_or-set_other ranks i s (Some (level + 1)) None (omega arith)) (h.unseen s (omega arith));
             none = λ f. absurd (true≢false f);
           }
 
@@ -155,16 +156,11 @@ Inside x (Some outer) = (s : ℕ) → Within outer 255 s → State x s
 -- layers from a start set by a step that grows with the set, both with members below n alone
 module _ (n : ℕ) (start : ℕ → Type 0) (step : (ℕ → Type 0) → ℕ → Type 0) where
   upto_layered : ((s : ℕ) → start s → s < n) → ((X : ℕ → Type 0) (s : ℕ) → step X s → s < n) → ((X Y : ℕ → Type 0) → ((s : ℕ) → X s → Y s) → (s : ℕ) → step X s → step Y s) → Layered n step (Upto start step)
-  upto_layered start_lt step_lt step_more = record { member_lt = within; later = upto_later start step; next = λ k s. rw (add-one k) (λ a. a, λ a. a); step_more = step_more }
-    where
-      within : (k s : ℕ) → Upto start step k s → s < n
-      within zero s h = start_lt s h
-      within (suc k) s h = ⊎_elim (within k s) (step_lt (Upto start step k) s) h
+  upto_layered start_lt step_lt step_more = record { member_lt = upto_below start step start_lt step_lt; later = upto_later start step; next = λ k s. rw (add-one k) (λ a. a, λ a. a); step_more = step_more }
 
 pub layers_layered : (x : Position) (o : Option (List (Option ℕ))) → Inside x o → Layered x.game.size (step_of x o) (layers_of x o)
 layers_layered x None inside =
-    upto_layered x.game.size (Target x) (Forced x) (λ s h. h.0) (λ X s h. h.0)
-    (λ X Y more s h. let (a, k, into) = h.1 in (h.0, (a, k, λ b l t m. more t (into b l t m))))
+    upto_layered x.game.size (Target x) (Forced x) (λ s h. h.0) (λ X s h. h.0) (forced_more x)
 layers_layered x (Some outer) inside =
     upto_layered x.game.size (Target x) (Touches x (Within outer 255)) (λ s h. h.0) (λ X s h. inside s h.0) (touches_mono x (Within outer 255))
 
@@ -180,49 +176,6 @@ layer_spared x o inside k ranks all s none h =
     ⊎_elim (λ m. m)
     (λ m. (layered.next k s).1 (inr (step_local x o (layers_of x o (k + 1)) (layers_of x o k) s (λ a b t p q lead. rank_lower layered k t (rank_at ranks t) (all t) (none a b t p q lead)) m)))
     ((layered.next (k + 1) s).0 h)
-
-module _ (x : Position) (o : Option (List (Option ℕ))) where
-  -- before the first sweep: the target states below i have rank 0, and the others none
-  pub record Marked (i : ℕ) (ranks : List (Option ℕ)) : Type 0 where
-    pub seen : (s : ℕ) → s < i → RankUpto (layers_of x o) 0 s (rank_at ranks s)
-    pub unseen : (s : ℕ) → i ≤ s → rank_at ranks s ≡ None
-
-target_rank : (x : Position) (o : Option (List (Option ℕ))) (s : ℕ) → Target x s → RankUpto (layers_of x o) 0 s (Some 0)
-target_rank x None s h = (omega arith, (h, below_none _))
-target_rank x (Some outer) s h = (omega arith, (h, below_none _))
-
-no_target_rank : (x : Position) (o : Option (List (Option ℕ))) (s : ℕ) → (Target x s → ⊥) → RankUpto (layers_of x o) 0 s None
-no_target_rank x None s out = out
-no_target_rank x (Some outer) s out = out
-
-module _ {x : Position} {o : Option (List (Option ℕ))} where
-  pub marked_none : (ranks : List (Option ℕ)) → ((s : ℕ) → rank_at ranks s ≡ None) → Marked x o 0 ranks
-  marked_none ranks h = record { seen = below_none _; unseen = λ s _. h s }
-
-  module _ {i : ℕ} {ranks : List (Option ℕ)} (h : Marked x o i ranks) where
-    -- a turn at a state of the target, and at another
-    pub marked_in : i < x.game.size → i < length ranks → x.target i ≡ true → Marked x o (i + 1) (set ranks i (Some 0))
-    marked_in b k e =
-        record {
-          seen = below_more _ i
-              (λ s m. subst (RankUpto (layers_of x o) 0 s) (sym (get_or-set_other ranks i s (Some 0) None (omega arith))) (h.seen s m))
-              (subst (RankUpto (layers_of x o) 0 i) (sym (get_or-set_same ranks i (Some 0) None k)) (target_rank x o i (b, e)));
-          unseen = λ s m. get_or-set_other ranks i s (Some 0) None (omega arith) ∙ h.unseen s (omega arith);
-        }
-
-    pub marked_out : x.target i ≡ false → Marked x o (i + 1) ranks
-    marked_out e =
-        record {
-          seen = below_more _ i h.seen (subst (RankUpto (layers_of x o) 0 i) (sym (h.unseen i (omega arith))) (no_target_rank x o i (λ m. both_ways (x.target i) e m.1)));
-          unseen = λ s m. h.unseen s (omega arith);
-        }
-
-  pub marked_all : {ranks : List (Option ℕ)} → Marked x o x.game.size ranks → (s : ℕ) → RankUpto (layers_of x o) 0 s (rank_at ranks s)
-  marked_all h s =
-      ⊎_elim
-      (h.seen s)
-      (λ b. subst (RankUpto (layers_of x o) 0 s) (sym (h.unseen s b)) (no_target_rank x o s (λ m. omega (arith, m.0))))
-      (cases_lt s x.game.size)
 
 -- no state enters after 255
 upto_highest : {n : ℕ} {start : ℕ → Type 0} {step : (ℕ → Type 0) → ℕ → Type 0} → Grows n start step → n ≤ 256 → (j s : ℕ) → Upto start step j s → Upto start step 255 s

@@ -1,35 +1,13 @@
 -- The outer rounds: the sets Y(j) shrink, each is decided, and at some round they settle.
-use Rattle.std.proofs.Common.{◌≡◌, ℕ, zero, suc, ◌+◌, ◌<◌, ◌≤◌, true, ◌⊎◌, inl, inr, ⊎_elim, arith}
+use Rattle.std.proofs.Common.{◌≡◌, ℕ, zero, suc, ◌+◌, ◌<◌, ◌≤◌, true, ◌⊎◌, inl, inr, ⊎_elim, arith, subst}
 use Rattle.game.specs.Below.{rank}
 use Rattle.game.specs.declared.player.Player.TheVariants.{One, Two}
 use Rattle.game.proofs.Below.{rank_le}
 use Rattle.theory.specs.Positions.{Position, Playable, State, Keeps, Leads, Target}
-use Rattle.theory.specs.Verdicts.{Stay, Touches, Level, Outer, Settled, OuterRounds}
-use Rattle.theory.proofs.Finite.{
-  Decided,
-  test,
-  test_holds,
-  holds_test,
-  fails_test,
-  decided_by,
-  decided_and,
-  decided_to,
-  decided_all,
-  decided_some_within,
-  all_or_some,
-  least,
-  least_one,
-  rank_more,
-  decided_state,
-  decided_keeps,
-  decided_leads,
-  decided_target,
-  decided_into,
-  move_lt,
-  leads_state,
-  kept_some,
-}
+use Rattle.theory.specs.Verdicts.{Stay, Touches, Level, Outer, Settled, OuterRounds, Almost, AlmostRank, AlmostMove}
+use Rattle.theory.proofs.Finite.{Decided, test, test_holds, holds_test, fails_test, decided_and, decided_some_within, all_or_some, least, least_one, rank_more, decided_state, decided_keeps, decided_leads, decided_target, decided_into, move_lt, leads_state, kept_some, all_or_some_within, decided_all_within}
 use Rattle.theory.proofs.Layers.{Grows, ever_decided}
+use Rattle.theory.specs.Layers.{Enters}
 
 module _ (S : ℕ → ℕ → Type 0) (decided : (j s : ℕ) → Decided (S j s)) (shrinks : (j s : ℕ) → S (suc j) s → S j s) where
   -- sets that shrink: two neighbours before m are equal below n, or m members have gone
@@ -77,6 +55,16 @@ module _ (x : Position) where
   pub rounds_unique : (j k : ℕ) → OuterRounds x j → OuterRounds x k → j ≡ k
   rounds_unique = least_one (Settled x)
 
+  -- there is one last set, so what is almost sure is said of any that is last
+  pub almost_at : (j : ℕ) → OuterRounds x j → (s : ℕ) → Almost x s → Outer x j s
+  almost_at j last s (i, at_i, h) = subst (λ k. Outer x k s) (rounds_unique i j at_i last) h
+
+  pub almost_rank_at : (j : ℕ) → OuterRounds x j → (r s : ℕ) → AlmostRank x r s → Enters (Level x (Outer x j)) r s
+  almost_rank_at j last r s (i, at_i, h) = subst (λ k. Enters (Level x (Outer x k)) r s) (rounds_unique i j at_i last) h
+
+  pub almost_move_at : (j : ℕ) → OuterRounds x j → (s a : ℕ) → AlmostMove x s a → Outer x j s × Stay x (Outer x j) s a
+  almost_move_at j last s a (_, (i, at_i, h, stay)) = subst (λ k. Outer x k s × Stay x (Outer x k) s a) (rounds_unique i j at_i last) (h, stay)
+
 -- some stay move can lead into X when player 2 replies b
 abbrev pub Answers : (x : Position) → (ℕ → Type 0) → (ℕ → Type 0) → ℕ → ℕ → Type 0
 Answers x Y X s b = (a : ℕ) × Stay x Y s a × ((t : ℕ) × Leads x s a b t × X t)
@@ -93,11 +81,8 @@ module _ {x : Position} (ok : Playable x) where
     -- a state of Y touches X, or player 2 keeps a reply to which no stay move can lead into X
     pub touches_or : (s : ℕ) → Y s → Touches x Y X s ⊎ ((b : ℕ) × Keeps x Two s b × (Answers x Y X s b → ⊥))
     touches_or s h =
-        ⊎_elim
-        (λ all. inl (h, λ b k. all b (move_lt ok Two s b k) k))
-        (λ (b, _, (k, none)). inr (b, k, none))
-        (all_or_some 8 (λ b. Keeps x Two s b → Answers x Y X s b) (λ b. Keeps x Two s b × (Answers x Y X s b → ⊥)) (λ b _.
-        ⊎_elim (λ a. inl (λ _. a)) (λ none. ⊎_elim (λ k. inr (k, none)) (λ f. inl (λ k. absurd (f k))) (decided_keeps x Two s b)) (decided_answers s b)))
+        ⊎_elim (λ all. inl (h, all)) inr
+        (all_or_some_within 8 (Keeps x Two s) (Answers x Y X s) (λ b. Answers x Y X s b → ⊥) (move_lt ok Two s) (decided_keeps x Two s) (decided_answers s))
 
     pub decided_touches : (s : ℕ) → Decided (Touches x Y X s)
     decided_touches s =
@@ -131,11 +116,7 @@ module _ {x : Position} (ok : Playable x) where
   levels_grow j = touches_grows (Outer x j) (outer_state x j) (outer_decided j)
 
   pub settled_decided : (j : ℕ) → Decided (Settled x j)
-  settled_decided j =
-      decided_by
-      (λ h s y. h s (outer_state x j s y) y)
-      (λ h s _ y. h s y)
-      (decided_all x.game.size (λ s. Outer x j s → Outer x (suc j) s) (λ s _. decided_to (outer_decided j s) (outer_decided (suc j) s)))
+  settled_decided j = decided_all_within x.game.size (Outer x j) (Outer x (suc j)) (outer_state x j) (outer_decided j) (outer_decided (suc j))
 
   -- the rounds settle within the number of states
   pub rounds_within : (j : ℕ) × (j ≤ x.game.size) × OuterRounds x j

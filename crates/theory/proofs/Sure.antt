@@ -8,6 +8,10 @@ use Rattle.theory.proofs.Finite.{decided_state, decided_target, decided_forced, 
 use Rattle.theory.proofs.Layers.{Grows, upto_more, upto_decided, upto_enters, upto_all, enters_one, enters_within, enters_lt, enters_or_never}
 use Rattle.theory.proofs.Histories.{met_now, history_state, follows_history}
 
+-- what is forced into a set is forced into a larger one
+pub forced_more : (x : Position) (X Y : ℕ → Type 0) → ((s : ℕ) → X s → Y s) → (s : ℕ) → Forced x X s → Forced x Y s
+forced_more x X Y more s h = let (a, k, into) = h.1 in (h.0, (a, k, λ b l t m. more t (into b l t m)))
+
 module _ (x : Position) (ok : Playable x) where
   pub sure_grows : Grows x.game.size (Target x) (Forced x)
   sure_grows = record {
@@ -15,7 +19,7 @@ module _ (x : Position) (ok : Playable x) where
     step_lt = λ X s h. h.0;
     start_decided = decided_target x;
     step_decided = decided_forced ok;
-    step_more = λ X Y more s h. let (a, k, into) = h.1 in (h.0, (a, k, λ b l t m. more t (into b l t m)));
+    step_more = forced_more x;
     step_some = λ X s h. let (a, k, into) = h.1 in into_some ok X s a k into;
   }
 
@@ -31,6 +35,10 @@ module _ (x : Position) (ok : Playable x) where
 
   pub sure_move_some : (r s : ℕ) → SureRank x (suc r) s → (a : ℕ) × SureMove x s a
   sure_move_some r s h = let (a, k, into) = rank_forced r s h in (a, (r, h, k, into))
+
+  -- at a state of rank r + 1 the moves handed out lead into the ranks up to r
+  pub sure_move_into : (r s a : ℕ) → SureRank x (suc r) s → SureMove x s a → Keeps x One s a × Into x (Sure x r) s a
+  sure_move_into r s a h (q, e, k, into) = (k, subst (λ i. Into x (Sure x i) s a) (omega (arith, enters_one sure_grows (suc r) (suc q) s h e)) into)
 
   -- the moves handed out lead into lower ranks
   pub sure_move_lower : (r s a b t : ℕ) → SureRank x r s → SureMove x s a → Keeps x Two s b → Leads x s a b t → (q : ℕ) × (q < r) × SureRank x q t
@@ -64,7 +72,7 @@ module _ (x : Position) (ok : Playable x) where
   good_ranked s zero h = good_any s (λ r e. e.1 0 (omega arith) h.0)
   good_ranked s (suc r) h =
       let (a, k, into) = rank_forced r s h in
-      (a, (λ _. k, λ q e. let is : r ≡ q = omega (arith, enters_one sure_grows (suc r) (suc q) s h e) in subst (λ i. Into x (Sure x i) s a) is into))
+      (a, (λ _. k, λ q e. (sure_move_into q s a e (r, h, k, into)).1))
 
   good_move : (s : ℕ) → (a : ℕ) × Good s a
   good_move s = ⊎_elim (λ (r, h). good_ranked s r h) (λ never. good_any s (λ r h. never (suc r) h.0)) (sure_decided s)

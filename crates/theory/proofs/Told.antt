@@ -12,7 +12,7 @@ use Rattle.theory.specs.Ranking.{rank_at, up_to, Within, RankFull, RankSays, Mov
 use Rattle.theory.specs.Verdicts.{Sure, SureRank, SureMove, Stay, Level, Outer, OuterRounds, AlmostRank, AlmostMove}
 use Rattle.theory.proofs.Layers.{Grows, upto_more, upto_enters, enters_within, enters_one, enters_lt}
 use Rattle.theory.proofs.OuterSets.{level_more}
-use Rattle.theory.proofs.Rounds.{target_outer, level_inside, levels_grow, rounds_unique}
+use Rattle.theory.proofs.Rounds.{target_outer, level_inside, levels_grow, almost_rank_at, almost_move_at}
 use Rattle.theory.proofs.Sure.{sure_grows}
 
 module _ {n : ℕ} {start : ℕ → Type 0} {step : (ℕ → Type 0) → ℕ → Type 0} (g : Grows n start step) where
@@ -64,17 +64,11 @@ module _ (x : Position) (ok : Playable x) (j : ℕ) (rounds : OuterRounds x j) (
   full_same s None h = λ k u. h k ((level_same k s).1 u)
   full_same s (Some r) h = ((level_same r s).0 h.0, λ i l u. h.1 i l ((level_same i s).1 u))
 
-  rank_last : (r s : ℕ) → AlmostRank x r s → Enters (Level x (Outer x j)) r s
-  rank_last r s (i, at_i, h) = subst (λ k. Enters (Level x (Outer x k)) r s) (rounds_unique x i j at_i rounds) h
-
-  move_last : (s a : ℕ) → AlmostMove x s a → Outer x j s × Stay x (Outer x j) s a
-  move_last s a (_, (i, at_i, h, stay)) = subst (λ k. Outer x k s × Stay x (Outer x k) s a) (rounds_unique x i j at_i rounds) (h, stay)
-
   none_handed : (s : ℕ) → ((a : ℕ) → AlmostMove x s a → ⊥) → MovesSay x InAlmost s 0
   none_handed s none a = (λ e. absurd (both_ways (bit 0 a) (bit_zero a) e), λ m. absurd (none a m))
 
   pub almost_says : (s : ℕ) (v : Option ℕ) → RankFull (Level x Y) s v → RankSays x InAlmost s v
-  almost_says s None h = λ r u. full_same s None h r (rank_last r s u).0
+  almost_says s None h = λ r u. full_same s None h r (almost_rank_at x j rounds r s u).0
   almost_says s (Some r) h = (j, rounds, full_same s (Some r) h)
 
   -- a state has a rank exactly when it is in the set
@@ -95,15 +89,15 @@ module _ (x : Position) (ok : Playable x) (j : ℕ) (rounds : OuterRounds x j) (
       (λ e a.
       let y = (ranked_inside s v h).0 e in (
         λ b. (λ t. both_ways (x.target s) off t.1, (j, rounds, (same s).0 y, (stay_same s a).0 ((stays y a).0 b))),
-        λ m. (stays y a).1 ((stay_same s a).1 (move_last s a m).1),
+        λ m. (stays y a).1 ((stay_same s a).1 (almost_move_at x j rounds s a m).1),
       ))
-      (λ e. none_handed s (λ a m. both_ways (up_to 255 v) e ((ranked_inside s v h).1 ((same s).1 (move_last s a m).0)))))
+      (λ e. none_handed s (λ a m. both_ways (up_to 255 v) e ((ranked_inside s v h).1 ((same s).1 (almost_move_at x j rounds s a m).0)))))
 
   pub almost_counts : (ranks : List (Option ℕ)) → ((s : ℕ) → RankFull (Level x Y) s (rank_at ranks s)) → Counts (λ s. (k : ℕ) × AlmostRank x k s) x.game.size (rank (λ s. up_to 255 (rank_at ranks s)) x.game.size)
   almost_counts ranks full = record {
     passes = λ s. up_to 255 (rank_at ranks s);
     sound = λ s _ e. let (k, u) = (byte s).0 e in (k, (j, rounds, u));
-    whole = λ s _ (k, u). (byte s).1 (k, rank_last k s u);
+    whole = λ s _ (k, u). (byte s).1 (k, almost_rank_at x j rounds k s u);
     many = refl;
   }
     where

@@ -10,7 +10,8 @@ pub fn sure_ranks_mean_strategies()
     ensures bound { SureBound }
     ensures means { SureMeans }
     ensures never { NeverForced }
-    ensures moves { (SureMoveSome) × (SureMoveLower) }
+    ensures some_move { SureMoveSome }
+    ensures lower { SureMoveLower }
     ensures reply { ReplySome }
 {}
 
@@ -31,9 +32,14 @@ pub fn plays_arrive()
 
 // The verdicts that compute are the verdicts. The call does nothing: its contract says it.
 pub fn computed_verdicts_are_the_verdicts()
-    ensures sure { (SureComputed) × ((SureRankComputed) × (SureMoveComputed)) }
-    ensures rounds { (OuterComputed) × (RoundsComputed) }
-    ensures almost { (AlmostComputed) × ((AlmostRankComputed) × (AlmostMoveComputed)) }
+    ensures sure { SureComputed }
+    ensures sure_rank { SureRankComputed }
+    ensures sure_moves { SureMoveComputed }
+    ensures outer { OuterComputed }
+    ensures rounds { RoundsComputed }
+    ensures almost { AlmostComputed }
+    ensures almost_rank { AlmostRankComputed }
+    ensures almost_moves { AlmostMoveComputed }
     ensures reply { ReplyComputed }
 {}
 

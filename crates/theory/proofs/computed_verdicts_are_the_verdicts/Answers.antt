@@ -3,8 +3,13 @@ use Rattle.theory.proofs.computed_verdicts_are_the_verdicts.Goals as goal
 
 pub returns : goal.returns
 returns c = record {
-  sure = (λ x ok. sure_lists ok, (λ x ok s. (λ r. sure_rank_some ok r s, sure_rank_none ok s), λ x ok. sure_set_holds ok));
-  rounds = (λ x ok. outer_lists ok, λ x ok. rounds_holds ok);
-  almost = (λ x ok. almost_lists ok, (λ x ok s. (λ r. almost_rank_some ok r s, almost_rank_none ok s), λ x ok. almost_set_holds ok));
+  sure = λ x ok. sure_lists ok;
+  sure_rank = λ x ok s. (λ r. sure_rank_some ok r s, sure_rank_none ok s);
+  sure_moves = λ x ok. sure_set_holds ok;
+  outer = λ x ok. outer_lists ok;
+  rounds = λ x ok. rounds_holds ok;
+  almost = λ x ok. almost_lists ok;
+  almost_rank = λ x ok s. (λ r. almost_rank_some ok r s, almost_rank_none ok s);
+  almost_moves = λ x ok. almost_set_holds ok;
   reply = λ x ok. replies_hold ok;
 }

@@ -7,6 +7,7 @@ returns c = record {
   bound = sure_bound;
   means = sure_means;
   never = never_forced;
-  moves = (sure_move_some, sure_move_lower);
+  some_move = sure_move_some;
+  lower = sure_move_lower;
   reply = reply_some;
 }

@@ -1,8 +1,7 @@
-use Rattle.std.proofs.Common.{◌^◌, ◌<◌, sym, ◌∙◌, arith, le-ltb}
+use Rattle.std.proofs.Common.{arith}
+use Rattle.std.proofs.lemmas.Bool.Decides.{nat_tests}
 use Rattle.game.proofs.Below.{bit_past}
 use Rattle.game.proofs.bits.has_bit.Goals as goal
 
 pub returns-else-i-lt8 : goal.returns-else-i-lt8
-returns-else-i-lt8 c =
-    let small : c.args.byte < 2 ^ 8 = omega arith in
-    le-ltb c.args.i 8 c.if-i-lt8.false ∙ sym (bit_past c.args.byte 8 c.args.i small c.if-i-lt8.false)
+returns-else-i-lt8 c = grind (arith, nat_tests, bit_past c.args.byte 8 c.args.i)
