@@ -1,13 +1,12 @@
 // Reads games and sets of states out of bytes.
 #![tactic(auto)]
 
-mod answers;
-mod members;
-mod opening;
+mod bits;
+mod group_map;
 mod places;
 mod record;
-mod row;
-pub mod set;
-pub mod source;
+mod row_reader;
+mod set;
+mod set_reader;
 pub mod table;
 pub mod target;

@@ -1,105 +1,84 @@
-// Reading a set of states: a group map of four bytes, and then one byte for each group that the map has.
-ghost use Rattle.std.specs.Prelude.{◌≡◌, ◌+◌, ◌<◌, ◌≤◌, length, Some, MatchResult};
-ghost use Rattle.game.specs.Refusals.{told};
-ghost use Rattle.layout.specs.Reading.{map_bit, group_place, set_end, GoodGroup, GoodSet, GoodSupport};
-ghost use Rattle.layout.specs.Faults.{BadGroup, BadSet, BadSupport};
+// A set of states that lies in bytes.
+ghost use Rattle.std.specs.Prelude.{◌≡◌, ℕ, ◌+◌, ◌*◌, ◌<◌, ◌≤◌, length, slice_index};
+ghost use Rattle.game.specs.Below.{bit};
+ghost use Rattle.layout.specs.Reading.{set_end, in_set};
+ghost use Rattle.layout.specs.Targets.{states_of};
 
-use game::bits::has_bit;
-use game::refusal::{Fault, Layer, Refusal};
+use crate::bits::{count_bits, find_bit};
+use crate::group_map::GroupMap;
 
-// Whether the map of the set that begins at `at` has the group.
-pub(crate) fn has_group(bytes: &[u8], at: usize, group: u16) -> bool
-    requires { (at + 4 ≤ length bytes.now) × (group < 32) }
-    ensures { result ≡ map_bit bytes.now at group }
-{
-    has_bit(bytes[at + group as usize / 8], (group % 8) as u8)
+// The whole set is there: its group map, and then one byte for each group that the map has.
+#[derive(Clone, Copy)]
+pub(crate) struct WholeSet<'a> {
+    pub(crate) map: GroupMap<'a>,
+    ghost whole: { set_end map.bytes.now map.at ≤ length map.bytes.now },
 }
 
-// Judges the byte of a group, which stands at `place`.
-fn read_group(
-    bytes: &[u8],
-    at: usize,
-    group: u16,
-    place: usize,
-    states: u16,
-    state: Option<u16>,
-) -> Result<(), Refusal>
-    requires { (place ≡ group_place bytes.now at group) × (group < 32) }
-    ensures { MatchResult result (λ _. GoodGroup states bytes.now at group) (λ e. BadGroup states bytes.now at group state (told e)) }
-{
-    let layer = Layer::Set;
-    if place >= bytes.len() {
-        let place = bytes.len();
-        return Err(Refusal::EndsEarly(Fault {
-            place,
-            layer,
-            state,
-        }));
-    }
-    let byte = bytes[place];
-    if byte == 0 {
-        return Err(Refusal::ZeroGroup(Fault {
-            place,
-            layer,
-            state,
-        }));
-    }
-    for i in 0..8u8 {
-        if has_bit(byte, i) && 8 * group + i as u16 >= states {
-            return Err(Refusal::MemberOutside(Fault {
-                place,
-                layer,
-                state,
-            }));
+impl<'a> WholeSet<'a> {
+    ghost use Rattle.records.specs.WholeSet.{members};
+
+    pub(crate) fn new(bytes: &'a [u8], at: usize) -> WholeSet<'a>
+        requires { set_end bytes.now at ≤ length bytes.now }
+        ensures of { result.map.bytes.now ≡ bytes.now }
+        ensures begins { result.map.at ≡ at }
+    {
+        WholeSet {
+            map: GroupMap::new(bytes, at),
         }
     }
-    Ok(())
-}
 
-// Judges the set that begins at `at`, in a game with so many states, and answers the place after it. The set may be empty.
-pub(crate) fn read_set(
-    bytes: &[u8],
-    at: usize,
-    states: u16,
-    state: Option<u16>,
-) -> Result<usize, Refusal>
-    ensures { MatchResult result (λ end. (end ≡ set_end bytes.now at) × (end ≤ length bytes.now) × GoodSet states bytes.now at) (λ e. BadSet states bytes.now at state (told e)) }
-{
-    if bytes.len() < 4 || at > bytes.len() - 4 {
-        let place = bytes.len();
-        let layer = Layer::Set;
-        return Err(Refusal::EndsEarly(Fault {
-            place,
-            layer,
-            state,
-        }));
+    // the place behind the set
+    pub(crate) fn end(&self) -> usize
+        ensures { result ≡ set_end self.now.map.bytes.now self.now.map.at }
+    {
+        self.map.place(32)
     }
-    let mut place = at + 4;
-    for group in 0..32u16 {
-        if has_group(bytes, at, group) {
-            read_group(bytes, at, group, place, states, state)?;
-            place += 1;
+
+    // The byte of a group: bit i stands where the set has state 8 group + i.
+    fn group(&self, group: u16) -> u8
+        requires { group < 32 }
+        ensures { (i : ℕ) → i < 8 → bit result i ≡ in_set self.now.map.bytes.now self.now.map.at (8 * group + i) }
+    {
+        if self.map.has(group) {
+            self.map.bytes[self.map.place(group)]
+        } else {
+            0
         }
     }
-    Ok(place)
-}
 
-// Judges the support that begins at `at`: a set that is not empty.
-pub(crate) fn read_support(
-    bytes: &[u8],
-    at: usize,
-    states: u16,
-    state: u16,
-) -> Result<usize, Refusal>
-    ensures { MatchResult result (λ end. (end ≡ set_end bytes.now at) × (end ≤ length bytes.now) × (at + 5 ≤ end) × GoodSupport states bytes.now at) (λ e. BadSupport states bytes.now at (Some state) (told e)) }
-{
-    let end = read_set(bytes, at, states, Some(state))?;
-    if end == at + 4 {
-        return Err(Refusal::EmptySupport(Fault {
-            place: at,
-            layer: Layer::Set,
-            state: Some(state),
-        }));
+    // the bytes of all groups
+    pub(crate) fn groups(&self) -> [u8; 32]
+        ensures { states_of result ≡ members self.now }
+    {
+        // By number: of an array that was written through `iter_mut` a proof knows only the length.
+        let mut groups = [0; 32];
+        for group in 0..32u16 {
+            groups[usize::from(group)] = self.group(group);
+        }
+        groups
     }
-    Ok(end)
+
+    // how many members the set has
+    pub(crate) fn size(&self) -> u16
+        ensures { result ≡ length (members self.now) }
+    {
+        (0..32u16).map(|group| count_bits(self.group(group))).sum()
+    }
+
+    // member k, counted from 0 in ascending order, or 0
+    pub(crate) fn member(&self, k: u16) -> u16
+        ensures { result ≡ slice_index (members self.now) k }
+    {
+        // No method of iterators passes over groups by their counts, so what is left is counted down.
+        let mut left = k;
+        for group in 0..32u16 {
+            let byte = self.group(group);
+            let count = count_bits(byte);
+            if left < count {
+                return 8 * group + find_bit(byte, left);
+            }
+            left -= count;
+        }
+        0
+    }
 }

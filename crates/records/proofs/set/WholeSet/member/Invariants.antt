@@ -1,0 +1,8 @@
+use Rattle.std.proofs.Common.{◌≡◌, ◌+◌, ◌*◌}
+use Rattle.game.specs.Below.{rank}
+use Rattle.layout.specs.Reading.{in_set}
+use Rattle.records.proofs.set.WholeSet.member.Given as goal
+
+-- so many members are left to pass
+abbrev pub invariant-loop-group : goal.invariant-loop-group
+invariant-loop-group l = l.k ≡ l.left + rank (in_set l.self.map.bytes.now l.self.map.at) (8 * l.group)
