@@ -1,4 +1,5 @@
 pub mod Sets
 pub mod Rows
-pub mod Written
+pub mod Sinks
+pub mod Laws
 pub mod Outcomes

@@ -1,70 +1,40 @@
 // The bytes of the row of a state.
-ghost use Rattle.std.specs.Prelude.{◌≡◌, ◌+◌, ◌≤◌, length};
+ghost use Rattle.std.specs.Prelude.{◌≤◌, length};
 ghost use Rattle.layout.specs.Writing.{row_bytes};
 ghost use Rattle.writer.specs.Rows.{replies};
-ghost use Rattle.writer.specs.Written.{Puts};
 
-use crate::set::{gather, put_set, set_length};
+use crate::set::{gather, put_set};
+use crate::sink::Sink;
 use game::bits::has_bit;
 use game::player::Player;
 use game::source::Source;
 
-// How many bytes the supports of a move of player 1 have.
-fn replies_length<S: Source>(source: &S, state: u16, a: u8) -> usize
-    ensures { result ≡ length (replies (S.Source.game source.now) state a) }
+// Puts the supports of a move of player 1 into a sink.
+fn put_replies<S: Source, K: Sink>(source: &S, state: u16, a: u8, sink: &mut K)
+    requires { length (replies (S.Source.game source.now) state a) ≤ K.room sink.old }
+    ensures { K.takes sink.old (replies (S.Source.game source.now) state a) sink.new }
 {
     let moves = source.moves(Player::Two, state);
-    let mut length = 0;
+    // tried with a filter: in a generic function, a loop over it that needs an invariant gets no proof
     for b in 0..8 {
         if has_bit(moves, b) {
-            length += set_length(&gather(source, state, a, b));
+            put_set(&gather(source, state, a, b), sink);
         }
     }
-    length
 }
 
-// How many bytes the row has.
-pub(crate) fn row_length<S: Source>(source: &S, state: u16) -> usize
-    ensures { result ≡ length (row_bytes (S.Source.game source.now) state) }
+// Puts the row into a sink.
+pub(crate) fn put_row<S: Source, K: Sink>(source: &S, state: u16, sink: &mut K)
+    requires { length (row_bytes (S.Source.game source.now) state) ≤ K.room sink.old }
+    ensures { K.takes sink.old (row_bytes (S.Source.game source.now) state) sink.new }
 {
     let moves = source.moves(Player::One, state);
-    let mut length = 2;
+    sink.put(moves);
+    sink.put(source.moves(Player::Two, state));
+    // tried with a filter: in a generic function, a loop over it that needs an invariant gets no proof
     for a in 0..8 {
         if has_bit(moves, a) {
-            length += replies_length(source, state, a);
+            put_replies(source, state, a, sink);
         }
     }
-    length
-}
-
-// Writes the supports of a move of player 1 from a place on, and tells the place after them.
-fn put_replies<S: Source>(source: &S, state: u16, a: u8, buffer: &mut [u8], at: usize) -> usize
-    requires { at + length (replies (S.Source.game source.now) state a) ≤ length buffer.old }
-    ensures { Puts buffer.old at (replies (S.Source.game source.now) state a) buffer.new result }
-{
-    let moves = source.moves(Player::Two, state);
-    let mut end = at;
-    for b in 0..8 {
-        if has_bit(moves, b) {
-            end = put_set(&gather(source, state, a, b), buffer, end);
-        }
-    }
-    end
-}
-
-// Writes the row from a place on, and tells the place after it.
-pub(crate) fn put_row<S: Source>(source: &S, state: u16, buffer: &mut [u8], at: usize) -> usize
-    requires { at + length (row_bytes (S.Source.game source.now) state) ≤ length buffer.old }
-    ensures { Puts buffer.old at (row_bytes (S.Source.game source.now) state) buffer.new result }
-{
-    let moves = source.moves(Player::One, state);
-    buffer[at] = moves;
-    buffer[at + 1] = source.moves(Player::Two, state);
-    let mut end = at + 2;
-    for a in 0..8 {
-        if has_bit(moves, a) {
-            end = put_replies(source, state, a, buffer, end);
-        }
-    }
-    end
 }

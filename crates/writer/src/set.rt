@@ -1,8 +1,8 @@
 // The bytes of a set of states.
-ghost use Rattle.std.specs.Prelude.{◌≡◌, ◌+◌, ◌<◌, ◌≤◌, length};
+ghost use Rattle.std.specs.Prelude.{◌≡◌, ◌<◌, ◌≤◌, length};
 ghost use Rattle.writer.specs.Sets.{Gathers, map_of, packed};
-ghost use Rattle.writer.specs.Written.{Puts};
 
+use crate::sink::Sink;
 use game::source::Source;
 
 // The byte of each of the 32 groups of the support of two moves.
@@ -22,42 +22,21 @@ fn map_byte(groups: &[u8; 32], j: usize) -> u8
     requires { j < 4 }
     ensures { result ≡ map_of groups.now j }
 {
-    let mut byte = 0;
-    for i in 0..8 {
-        if groups[8 * j + i] > 0 {
-            byte += 1 << i;
-        }
-    }
-    byte
+    (0..8).map(|i| u8::from(groups[8 * j + i] > 0) << i).sum()
 }
 
-// How many bytes the set has.
-pub(crate) fn set_length(groups: &[u8; 32]) -> usize
-    ensures { result ≡ length (packed groups.now) }
-{
-    let mut length = 4;
-    for group in groups {
-        if *group > 0 {
-            length += 1;
-        }
-    }
-    length
-}
-
-// Writes the bytes of the set from a place on, and tells the place after them.
-pub(crate) fn put_set(groups: &[u8; 32], buffer: &mut [u8], at: usize) -> usize
-    requires { at + length (packed groups.now) ≤ length buffer.old }
-    ensures { Puts buffer.old at (packed groups.now) buffer.new result }
+// Puts the bytes of the set into a sink.
+pub(crate) fn put_set<K: Sink>(groups: &[u8; 32], sink: &mut K)
+    requires { length (packed groups.now) ≤ K.room sink.old }
+    ensures { K.takes sink.old (packed groups.now) sink.new }
 {
     for j in 0..4 {
-        buffer[at + j] = map_byte(groups, j);
+        sink.put(map_byte(groups, j));
     }
-    let mut end = at + 4;
+    // tried with a filter: in a generic function, a loop over it that needs an invariant gets no proof
     for group in groups {
         if *group > 0 {
-            buffer[end] = *group;
-            end += 1;
+            sink.put(*group);
         }
     }
-    end
 }

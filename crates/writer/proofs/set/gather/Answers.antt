@@ -1,5 +1,4 @@
 use Rattle.std.proofs.Common.{arith}
-use Rattle.std.proofs.lemmas.List.{take_all}
 use Rattle.writer.proofs.Members.{gathers_none, Put, put}
 use Rattle.writer.proofs.set.gather.Given.{Over}
 use Rattle.writer.proofs.set.gather.Goals as goal
@@ -25,8 +24,3 @@ bounds-groups-from-in-loop-k g c = (turn g c).place
 
 pub loop-k-preserved : goal.loop-k-preserved
 loop-k-preserved g c = (turn g c).more
-
-pub returns : goal.returns
-returns g c =
-    let all = take_all c.loop-k.k ((g.S.Source.game c.args.source.now).support c.args.state c.args.a c.args.b) (omega arith) in
-    rw all at c.loop-k.invariant
