@@ -53,6 +53,7 @@ pub fn reopen<'a, S: Source>(
 }
 
 // How many supports the game of a source has: one for each state and each two moves that the players have there.
+// A chain that ends in `sum` would leave its bound and its result to proofs by hand, which this loop does not need.
 pub fn count_supports<S: Source>(source: &S) -> usize
     ensures { result ≡ supports_below (S.Source.game source.now) (S.Source.game source.now).size }
 {
@@ -60,6 +61,7 @@ pub fn count_supports<S: Source>(source: &S) -> usize
     for state in 0..source.states() {
         let first = source.moves(Player::One, state).count_ones();
         let second = source.moves(Player::Two, state).count_ones();
+        // a product of two counts of bits fits, and no `From` leads from u32 to usize
         count += (first * second) as usize;
     }
     count

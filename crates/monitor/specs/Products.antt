@@ -1,5 +1,5 @@
 -- The product of a game with a monitor.
-use Rattle.std.specs.Prelude.{ℕ, ◌+◌, ◌*◌, ◌/◌, ◌%◌, ◌<◌, cond, List, map, length, nat_le, slice_index}
+use Rattle.std.specs.Prelude.{ℕ, ◌+◌, ◌*◌, ◌/◌, ◌%◌, ◌<◌, List, map, length, slice_index}
 use Rattle.game.specs.Games.{Game}
 
 -- the state of the monitor after q, where a game of n states goes on to t
@@ -18,11 +18,6 @@ product g m table = record {
   choices = λ p x. g.choices p (x / m);
   support = λ x a b. paired table g.size m (x % m) (g.support (x / m) a b);
 }
-
--- The game that a source of g shows under a monitor: the product, or g itself where the product would have more than 256
--- states. `new` and `make` establish that it has not, so the second case does not arise; with it the meaning is total.
-abbrev pub monitored : Game → ℕ → List ℕ → Game
-monitored g m table = cond (nat_le (g.size * m) 256) (product g m table) g
 
 -- every entry is a state of the monitor
 abbrev pub Entries : ℕ → List ℕ → Type 0

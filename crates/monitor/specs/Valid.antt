@@ -1,11 +1,11 @@
--- A monitored game is well-formed.
-use Rattle.std.specs.Prelude.{ℕ, suc, ◌+◌, ◌*◌, ◌/◌, ◌%◌, ◌<◌, ◌≤◌, List, [], ◌∷◌, length, nat_le, slice_index}
+-- The product of a game with a monitor is well-formed.
+use Rattle.std.specs.Prelude.{ℕ, suc, ◌+◌, ◌*◌, ◌/◌, ◌%◌, ◌<◌, ◌≤◌, List, [], ◌∷◌, length, slice_index}
 use Rattle.std.proofs.Common.{⊎_elim, ap, arith}
 use Rattle.std.proofs.lemmas.Nat.{mul-le, mul-add-lt, div_below, le-div}
 use Rattle.std.proofs.lemmas.List.{length-map, get_or_past}
-use Rattle.std.proofs.lemmas.Bool.{cases_lt, cond_both, leb-true}
+use Rattle.std.proofs.lemmas.Bool.{cases_lt}
 use Rattle.game.specs.Games.{Game, Ascends, WellFormed}
-use Rattle.monitor.specs.Products.{next, paired, product, monitored, Entries}
+use Rattle.monitor.specs.Products.{next, paired, product, Entries}
 
 module _ (m : ℕ) (table : List ℕ) (some : 1 ≤ m) (entries : Entries m table) where
   -- past the table's end the entry reads 0
@@ -22,7 +22,7 @@ module _ (m : ℕ) (table : List ℕ) (some : 1 ≤ m) (entries : Entries m tabl
       )
 
   module _ (g : Game) (valid : WellFormed g) where
-    product_valid : g.size * m ≤ 256 → WellFormed (product g m table)
+    pub product_valid : g.size * m ≤ 256 → WellFormed (product g m table)
     product_valid few = record {
       some_state = mul-le 1 1 g.size m valid.some_state some;
       few_states = few;
@@ -33,6 +33,3 @@ module _ (m : ℕ) (table : List ℕ) (some : 1 ≤ m) (entries : Entries m tabl
       ascends = λ x a b. ascends_paired g.size (x % m) g.size 0 0 (g.support (x / m) a b) (omega arith) (valid.ascends (x / m) a b);
       no_next = λ x a b h. ap (paired table g.size m (x % m)) (valid.no_next (x / m) a b h);
     }
-
-    pub monitored_valid : WellFormed (monitored g m table)
-    monitored_valid = cond_both (nat_le (g.size * m) 256) (product g m table) g WellFormed (λ e. product_valid (leb-true (g.size * m) 256 e)) (λ _. valid)

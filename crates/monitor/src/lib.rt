@@ -1,25 +1,22 @@
 // The game of a source under a monitor, a machine of a few states that follows the play.
 #![tactic(auto)]
 
-ghost use Rattle.std.specs.Prelude.{◌≡◌, ℕ, ◌+◌, ◌*◌, ◌<◌, ◌≤◌, length, MatchOption, MatchResult, OnOk, nat_le, slice_index};
+ghost use Rattle.std.specs.Prelude.{◌≡◌, ℕ, ◌+◌, ◌*◌, ◌<◌, ◌≤◌, length, MatchOption, MatchResult, OnOk, slice_index};
 ghost use Rattle.game.specs.Games.{Same};
 ghost use Rattle.game.specs.Refusals.{told, with_value};
 ghost use Rattle.monitor.specs.Making.{Accepted, FirstWrong, NotMade};
-ghost use Rattle.monitor.specs.Products.{Entries, monitored, next, product};
-ghost use Rattle.monitor.specs.Valid.{monitored_valid};
+ghost use Rattle.monitor.specs.Products.{Entries, next, product};
+ghost use Rattle.monitor.specs.Valid.{product_valid};
 
 use game::player::Player;
 use game::refusal::Refusal;
-use game::source::Source;
-
-// The most states that a game has.
-const MOST_STATES: u16 = 256;
+use game::source::{MOST_STATES, Source};
 
 // The most states that a monitor has.
 const MOST_MONITOR_STATES: u16 = 8;
 
 // A monitor has the states 0 to `states` - 1. For a game of n states, its table holds at place q * n + t the state that
-// comes after its state q where the game goes on to t.
+// comes after its state q where the game goes on to t. The library allocates nothing, so the table has room for the longest one.
 #[derive(Drop)]
 struct Monitor {
     states: u16,
@@ -50,7 +47,7 @@ impl Monitor {
     }
 }
 
-// The place of the first entry that is not below m.
+// The place of the first entry that is not below m. A loop with an index: `position` would say the same, and be no shorter.
 fn first_wrong(m: u16, table: &[u8]) -> Option<usize>
     ensures { MatchOption result (Entries m table.now) (FirstWrong m table.now) }
 {
@@ -94,9 +91,10 @@ fn copied(table: &[u8]) -> [u8; 256]
 
 // A source and a monitor. Its states are s * m + q, of a state s of the source and a state q of the monitor.
 #[derive(Drop)]
-pub struct Monitored<S> {
+pub struct Monitored<S: Source> {
     base: S,
     monitor: Monitor,
+    ghost fits: { (S.Source.game base).size * monitor.states ≤ 256 },
 }
 
 impl<S: Source> Monitored<S> {
@@ -104,7 +102,7 @@ impl<S: Source> Monitored<S> {
     pub fn new(base: S) -> Self
         ensures base { result.base ≡ base }
         ensures states { result.monitor.states ≡ 1 }
-        ensures game { Same (monitored (S.Source.game result.base) result.monitor.states result.monitor.table) (S.Source.game base) }
+        ensures game { Same (product (S.Source.game result.base) result.monitor.states result.monitor.table) (S.Source.game base) }
     {
         Monitored {
             base,
@@ -116,7 +114,7 @@ impl<S: Source> Monitored<S> {
     pub fn make(&mut self, m: u16, table: &[u8]) -> Result<(), Refusal>
         ensures judged { MatchResult result (λ _. Accepted (S.Source.game self.old.base).size m table.now) (λ e. NotMade (S.Source.game self.old.base).size m table.now (told e)) }
         ensures kept { MatchResult result (λ _. (self.new.base ≡ self.old.base) × (self.new.monitor.states ≡ m)) (λ _. self.new ≡ self.old) }
-        ensures game { OnOk result (Same (monitored (S.Source.game self.new.base) self.new.monitor.states self.new.monitor.table) (product (S.Source.game self.old.base) m table.now)) }
+        ensures game { OnOk result (Same (product (S.Source.game self.new.base) self.new.monitor.states self.new.monitor.table) (product (S.Source.game self.old.base) m table.now)) }
     {
         judge(self.base.states(), m, table)?;
         self.monitor = Monitor {
@@ -136,64 +134,32 @@ impl<S: Source> Monitored<S> {
             Err(Refusal::NoState(state))
         }
     }
+}
 
-    // whether the product has at most 256 states: `new` and `make` see to it, so the answer is always yes
-    fn fits(&self) -> bool
-        ensures { result ≡ nat_le ((S.Source.game self.now.base).size * self.now.monitor.states) 256 }
-    {
-        self.base.states() * self.monitor.states <= MOST_STATES
+impl<S: Source> Source for Monitored<S> {
+    ghost game = { λ x. product (S.Source.game x.base) x.monitor.states x.monitor.table };
+
+    ghost valid = { λ x. product_valid x.monitor.states x.monitor.table x.monitor.some x.monitor.entries (S.Source.game x.base) (S.Source.valid x.base) x.fits };
+
+    fn states(&self) -> u16 {
+        self.base.states() * self.monitor.states
     }
 
-    // member k of a support of the product
-    fn product_member(&self, state: u16, a: u8, b: u8, k: u16) -> u16
-        requires { (S.Source.game self.now.base).size * self.now.monitor.states ≤ 256 }
-        ensures { result ≡ slice_index ((product (S.Source.game self.now.base) self.now.monitor.states self.now.monitor.table).support state a b) k }
-    {
+    fn moves(&self, player: Player, state: u16) -> u8 {
+        self.base.moves(player, state / self.monitor.states)
+    }
+
+    fn support_size(&self, state: u16, a: u8, b: u8) -> u16 {
+        self.base.support_size(state / self.monitor.states, a, b)
+    }
+
+    fn member(&self, state: u16, a: u8, b: u8, k: u16) -> u16 {
         let m = self.monitor.states;
         if k < self.base.support_size(state / m, a, b) {
             let t = self.base.member(state / m, a, b, k);
             t * m + self.monitor.next(self.base.states(), state % m, t)
         } else {
             0
-        }
-    }
-}
-
-impl<S: Source> Source for Monitored<S> {
-    ghost game = { λ x. monitored (S.Source.game x.base) x.monitor.states x.monitor.table };
-
-    ghost valid = { λ x. monitored_valid x.monitor.states x.monitor.table x.monitor.some x.monitor.entries (S.Source.game x.base) (S.Source.valid x.base) };
-
-    fn states(&self) -> u16 {
-        let n = self.base.states();
-        if self.fits() {
-            n * self.monitor.states
-        } else {
-            n
-        }
-    }
-
-    fn moves(&self, player: Player, state: u16) -> u8 {
-        if self.fits() {
-            self.base.moves(player, state / self.monitor.states)
-        } else {
-            self.base.moves(player, state)
-        }
-    }
-
-    fn support_size(&self, state: u16, a: u8, b: u8) -> u16 {
-        if self.fits() {
-            self.base.support_size(state / self.monitor.states, a, b)
-        } else {
-            self.base.support_size(state, a, b)
-        }
-    }
-
-    fn member(&self, state: u16, a: u8, b: u8, k: u16) -> u16 {
-        if self.fits() {
-            self.product_member(state, a, b, k)
-        } else {
-            self.base.member(state, a, b, k)
         }
     }
 }

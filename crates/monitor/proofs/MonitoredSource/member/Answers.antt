@@ -1,9 +1,9 @@
-use Rattle.std.proofs.Common.{◌+◌, ◌*◌, ◌/◌, ◌%◌, sym, arith}
+use Rattle.std.proofs.Common.{◌+◌, ◌*◌, ◌/◌, ◌%◌, arith}
 use mir.Facts.{Fits-below}
 use Rattle.std.proofs.lemmas.Nat.{mul-le, mul-add-lt, mod_below}
 use Rattle.monitor.specs.Valid.{entry_below}
-use Rattle.monitor.proofs.Products.{member_below, paired_member, paired_past}
-use Rattle.monitor.proofs.Monitored.product_member.Goals as goal
+use Rattle.monitor.proofs.Products.{member_below}
+use Rattle.monitor.proofs.MonitoredSource.member.Goals as goal
 
 pub overflow_mul-result : goal.overflow_mul-result
 overflow_mul-result g c =
@@ -26,16 +26,3 @@ overflow_add-result g c =
     let t = member_below (g.S.Source.game v.base) (c.args.state / v.monitor.states) c.args.a c.args.b c.args.k (g.S.Source.valid v.base) (omega arith) in
     let next = entry_below v.monitor.states v.monitor.table v.monitor.some v.monitor.entries (c.args.state % v.monitor.states * c.states.result + c.member-t.result) in
     Fits-below {n = 256} tt (omega (arith, mul-add-lt c.member-t.result v.monitor.states c.next.result (g.S.Source.game v.base).size (omega arith) (omega arith)))
-
-pub returns-then-k-support_size : goal.returns-then-k-support_size
-returns-then-k-support_size g c =
-    let v = c.args.self.now in
-    let base = g.S.Source.game v.base in
-    let p = paired_member v.monitor.table base.size v.monitor.states (c.args.state % v.monitor.states) (base.support (c.args.state / v.monitor.states) c.args.a c.args.b) c.args.k (omega arith) in
-    cc
-
-pub returns-else-k-support_size : goal.returns-else-k-support_size
-returns-else-k-support_size g c =
-    let v = c.args.self.now in
-    let base = g.S.Source.game v.base in
-    sym (paired_past v.monitor.table base.size v.monitor.states (c.args.state % v.monitor.states) (base.support (c.args.state / v.monitor.states) c.args.a c.args.b) c.args.k (omega arith))
