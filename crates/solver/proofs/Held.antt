@@ -13,7 +13,7 @@ use Rattle.theory.specs.Positions.{Position, Playable}
 use Rattle.theory.specs.Ranking.{rank_at, up_to, Within, RankFull, RankSays, MovesSay}
 use Rattle.theory.specs.Verdicts.{Sure as InSure, Level, Outer, OuterRounds, Stay}
 use Rattle.theory.proofs.Told.{sure_says, sure_moves, almost_says, almost_moves}
-use Rattle.solver.specs.Entries.{blank, entry, kept_of, kept_in, target_in, verdict_in, position_of, with_verdicts}
+use Rattle.solver.specs.Entries.{blank, entry, kept_of, kept_in, target_in, verdict_in, position_of, with_verdicts, rank_of, moves_of}
 use Rattle.solver.specs.Moves.{LowerMove}
 use Rattle.solver.specs.declared.entries.Entry.{Entry}
 use Rattle.solver.specs.declared.entries.Verdict.{Verdict}
@@ -28,11 +28,11 @@ alike_position g new old (kept, target) =
     ∙ ap (λ t. record { game = g; kept = kept_in old; target = t }) (fun_ext target)
 
 -- the kept moves do not see the verdicts
-kept_put : (e : Entry) (sure almost : Verdict) (p : Player) → kept_of (record { one = e.one; two = e.two; target = e.target; sure = sure; almost = almost }) p ≡ kept_of e p
+kept_put : (e : Entry) (sure almost : Option Verdict) (p : Player) → kept_of (record { one = e.one; two = e.two; target = e.target; sure = sure; almost = almost }) p ≡ kept_of e p
 kept_put e sure almost One = refl
 kept_put e sure almost Two = refl
 
-pub alike_put : (entries : List Entry) (n : ℕ) (sure almost : Verdict) → n < length entries → Alike (with_verdicts entries n sure almost) entries
+pub alike_put : (entries : List Entry) (n : ℕ) (sure almost : Option Verdict) → n < length entries → Alike (with_verdicts entries n sure almost) entries
 alike_put entries n sure almost l = (
   λ p s.
       ⊎_elim
@@ -47,11 +47,11 @@ alike_put entries n sure almost l = (
 )
 
 -- the verdicts on s: in mode sure as the ranks tell, in mode almost as the levels and the stay moves tell
-pub record Tells (x : Position) (ranks levels : List (Option ℕ)) (stay : List ℕ) (s : ℕ) (sure almost : Verdict) : Type 0 where
-  pub sure_rank : sure.rank ≡ rank_at ranks s
-  pub sure_moves : (a : ℕ) → Exactly (bit sure.moves a ≡ true) (LowerMove x ranks s a)
-  pub almost_rank : almost.rank ≡ rank_at levels s
-  pub almost_moves : almost.moves ≡ cond (x.target s) 0 (cond (up_to 255 (rank_at levels s)) (get_or stay s 0) 0)
+pub record Tells (x : Position) (ranks levels : List (Option ℕ)) (stay : List ℕ) (s : ℕ) (sure almost : Option Verdict) : Type 0 where
+  pub sure_rank : rank_of sure ≡ rank_at ranks s
+  pub sure_moves : (a : ℕ) → Exactly (bit (moves_of sure) a ≡ true) (LowerMove x ranks s a)
+  pub almost_rank : rank_of almost ≡ rank_at levels s
+  pub almost_moves : moves_of almost ≡ cond (x.target s) 0 (cond (up_to 255 (rank_at levels s)) (get_or stay s 0) 0)
 
 -- entries like the old ones that hold the verdicts on the first n states
 pub record Held (g : Game) (old : List Entry) (ranks levels : List (Option ℕ)) (stay : List ℕ) (n : ℕ) (new : List Entry) : Type 0 where
@@ -63,7 +63,7 @@ module _ {g : Game} {old : List Entry} {ranks levels : List (Option ℕ)} {stay 
   held_none = record { alike = (λ p s. refl, λ s. refl); verdicts = λ s l. absurd (omega arith) }
 
   -- one state on
-  pub held_more : {n : ℕ} {now next : List Entry} (sure almost : Verdict) → n < length now → Held g old ranks levels stay n now → Tells (position_of g now) ranks levels stay n sure almost → next ≡ with_verdicts now n sure almost → Held g old ranks levels stay (n + 1) next
+  pub held_more : {n : ℕ} {now next : List Entry} (sure almost : Option Verdict) → n < length now → Held g old ranks levels stay n now → Tells (position_of g now) ranks levels stay n sure almost → next ≡ with_verdicts now n sure almost → Held g old ranks levels stay (n + 1) next
   held_more {n = n} {now = now} sure almost l held tells is =
       let (kept, target) = alike_put now n sure almost l in
       subst (Held g old ranks levels stay (n + 1)) (sym is)
@@ -94,13 +94,13 @@ module _
     (level_full : (s : ℕ) → RankFull (Level (position_of g old) (Within outer 255)) s (rank_at levels s))
     (stays : (s : ℕ) → Within outer 255 s → (a : ℕ) → Exactly (bit (get_or stay s 0) a ≡ true) (Stay (position_of g old) (Within outer 255) s a))
   where
-    pub held_ranks : (mode : Mode) (s : ℕ) → s < g.size → RankSays (position_of g old) mode s (verdict_in new mode s).rank
+    pub held_ranks : (mode : Mode) (s : ℕ) → s < g.size → RankSays (position_of g old) mode s (rank_of (verdict_in new mode s))
     held_ranks Sure s l = subst (RankSays (position_of g old) Sure s) (sym (held.verdicts s l).sure_rank) (sure_says (position_of g old) s (rank_at ranks s) (sure_full s))
     held_ranks Almost s l =
         subst (RankSays (position_of g old) Almost s) (sym (held.verdicts s l).almost_rank)
         (almost_says (position_of g old) ok j rounds (Within outer 255) last s (rank_at levels s) (level_full s))
 
-    pub held_moves : (mode : Mode) (s : ℕ) → s < g.size → MovesSay (position_of g old) mode s (verdict_in new mode s).moves
+    pub held_moves : (mode : Mode) (s : ℕ) → s < g.size → MovesSay (position_of g old) mode s (moves_of (verdict_in new mode s))
     held_moves Sure s l = λ a.
         let put = (held.verdicts s l).sure_moves a in
         let lower = sure_moves (position_of g old) ok ranks sure_full s a in

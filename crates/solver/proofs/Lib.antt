@@ -3,3 +3,4 @@ pub mod Held
 pub mod Linking
 pub mod Marks
 pub mod Steps
+pub mod Zeros

@@ -1,23 +1,20 @@
--- How a state enters the next level.
-use Rattle.std.specs.Prelude.{◌≡◌, ℕ, ◌<◌, true, List, Some, None, Option, slice_index}
+-- Sets of states, told by ranks: those that have one.
+use Rattle.std.specs.Prelude.{◌≡◌, ℕ, true, List, Some, None, Option, slice_index}
 use Rattle.game.specs.Below.{bit}
 use Rattle.theory.specs.Laws.{Exactly}
-use Rattle.theory.specs.Positions.{Position}
+use Rattle.theory.specs.Positions.{Position, State}
 use Rattle.theory.specs.Ranking.{Within}
 use Rattle.theory.specs.Verdicts.{Stay}
-use Rattle.solver.specs.declared.levels.Outer.{Outer}
-use Rattle.solver.specs.declared.levels.Step.{Step}
-use Rattle.solver.specs.declared.levels.Step.TheVariants.{Force, Touch}
 
--- the set whose levels are worked out, none for sure ranks
-abbrev pub set_of : Step → Option (List (Option ℕ))
-set_of Force = None
-set_of (Touch outer) = Some outer.now.ranks.at
+-- the moves at each state of the set are those that stay in it
+abbrev pub StaysIn : Position → List (Option ℕ) → List ℕ → Type 0
+StaysIn x ranks stay = (s : ℕ) → Within ranks 255 s → (a : ℕ) → Exactly (bit (slice_index stay s) a ≡ true) (Stay x (Within ranks 255) s a)
 
--- the moves of a set are those that stay in it, and its members are states of the game
-abbrev pub StaysIn : Position → Outer → Type 0
-StaysIn x outer = ((s : ℕ) → Within outer.ranks.at 255 s → (a : ℕ) → Exactly (bit (slice_index outer.stay s) a ≡ true) (Stay x (Within outer.ranks.at 255) s a)) × ((s : ℕ) → Within outer.ranks.at 255 s → s < x.game.size)
+-- the members of the set are states of the game
+abbrev pub HasStates : Position → List (Option ℕ) → Type 0
+HasStates x ranks = (s : ℕ) → Within ranks 255 s → State x s
 
-abbrev pub Stays : Position → Step → Type 0
-Stays x Force = Unit {0}
-Stays x (Touch outer) = StaysIn x outer.now
+-- the same where there is a set
+abbrev pub AllStates : Position → Option (List (Option ℕ)) → Type 0
+AllStates x None = Unit {0}
+AllStates x (Some ranks) = HasStates x ranks

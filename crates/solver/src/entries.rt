@@ -4,40 +4,32 @@ ghost use Rattle.solver.specs.Entries.{blank, entry, kept_in, verdict_in, with_k
 
 use game::mode::Mode;
 use game::player::Player;
+use game::source::MOST_STATES;
 
-// The most states that a game has.
-pub const MOST_STATES: u16 = 256;
-
-// A verdict on a state in one mode: its rank, if it is winning, and the moves handed out there.
+// The verdict on a winning state in one mode: its rank, and the moves handed out there.
 #[derive(Clone, Copy, PartialEq, Eq, Debug)]
 pub struct Verdict {
-    pub rank: Option<u8>,
+    pub rank: u8,
     pub moves: u8,
 }
 
-// One state: the kept moves of both players, whether it is in the target, and its verdicts.
+// One state: the kept moves of both players, whether it is in the target, and its verdict in each mode in which it is winning.
 #[derive(Clone, Copy, PartialEq, Eq, Debug)]
 pub struct Entry {
     pub one: u8,
     pub two: u8,
     pub target: bool,
-    pub sure: Verdict,
-    pub almost: Verdict,
+    pub sure: Option<Verdict>,
+    pub almost: Option<Verdict>,
 }
-
-// no rank, and no moves
-const NO_VERDICT: Verdict = Verdict {
-    rank: None,
-    moves: 0,
-};
 
 // no kept moves, not in the target, no verdicts
 const BLANK: Entry = Entry {
     one: 0,
     two: 0,
     target: false,
-    sure: NO_VERDICT,
-    almost: NO_VERDICT,
+    sure: None,
+    almost: None,
 };
 
 #[derive(Drop)]
@@ -58,11 +50,7 @@ impl Entries {
     pub fn entry(&self, state: u16) -> Entry
         ensures { result ≡ entry self.now.at state }
     {
-        if state < MOST_STATES {
-            self.at[state as usize]
-        } else {
-            BLANK
-        }
+        self.at.get(usize::from(state)).copied().unwrap_or(BLANK)
     }
 
     // the kept moves of a player at a state, one bit for each move
@@ -82,8 +70,8 @@ impl Entries {
         self.entry(state).target
     }
 
-    // the verdict on a state that is held
-    pub fn verdict(&self, mode: Mode, state: u16) -> Verdict
+    // the verdict on a state that is held, if there is one
+    pub fn verdict(&self, mode: Mode, state: u16) -> Option<Verdict>
         ensures { result ≡ verdict_in self.now.at mode state }
     {
         match mode {
@@ -96,10 +84,11 @@ impl Entries {
     pub fn set_kept(&mut self, player: Player, state: u16, moves: u8)
         ensures { self.new.at ≡ with_kept self.old.at player state moves }
     {
+        // A test and an index, here and below: of an array that was written through `get_mut` a proof knows only the length.
         if state < MOST_STATES {
             match player {
-                Player::One => self.at[state as usize].one = moves,
-                Player::Two => self.at[state as usize].two = moves,
+                Player::One => self.at[usize::from(state)].one = moves,
+                Player::Two => self.at[usize::from(state)].two = moves,
             }
         }
     }
@@ -109,19 +98,18 @@ impl Entries {
         ensures { self.new.at ≡ with_target self.old.at state in_target }
     {
         if state < MOST_STATES {
-            self.at[state as usize].target = in_target;
+            self.at[usize::from(state)].target = in_target;
         }
     }
 
     // Puts verdicts into the entry of a state. Past the last entry nothing changes.
-    pub fn set_verdicts(&mut self, state: u16, sure: Verdict, almost: Verdict)
+    pub fn set_verdicts(&mut self, state: u16, sure: Option<Verdict>, almost: Option<Verdict>)
         ensures { self.new.at ≡ with_verdicts self.old.at state sure almost }
     {
         if state < MOST_STATES {
-            let mut entry = self.at[state as usize];
+            let entry = &mut self.at[usize::from(state)];
             entry.sure = sure;
             entry.almost = almost;
-            self.at[state as usize] = entry;
         }
     }
 }

@@ -1,95 +1,82 @@
 // Ranks, worked out level by level.
-ghost use Rattle.std.specs.Prelude.{◌≡◌, ℕ, ◌+◌, ◌<◌, true, false, length};
+ghost use Rattle.std.specs.Prelude.{◌≡◌, ℕ, ◌+◌, ◌<◌, true, false, List, Some, None, Option};
 ghost use Rattle.theory.specs.Laws.{Exactly};
 ghost use Rattle.theory.specs.Layers.{Enters};
-ghost use Rattle.theory.specs.Positions.{Playable};
+ghost use Rattle.theory.specs.Positions.{Position, Playable, State};
 ghost use Rattle.theory.specs.Ranking.{Within, rank_at, step_of, layers_of, RankUpto, RankFull};
-ghost use Rattle.solver.specs.Entries.{position_of};
-ghost use Rattle.solver.specs.Links.{Linked, Spares};
-ghost use Rattle.solver.specs.Steps.{set_of, Stays};
-ghost use Rattle.solver.specs.declared.levels.Step.TheVariants.{Force};
+ghost use Rattle.solver.specs.Links.{Spares};
+ghost use Rattle.solver.specs.Positions.{meant};
+ghost use Rattle.solver.specs.Steps.{HasStates, AllStates};
 
-use crate::entries::Entries;
 use crate::links::Links;
-use crate::moves::{can_lead, moves_into};
 use crate::ranks::{HIGHEST, Ranks};
 use game::source::Source;
 
-// A set of states, those that have a rank, and at each of them the moves that stay in the set.
+// How a state enters the next level at a position.
+pub(crate) trait Step<S: Source> {
+    // the position whose levels are worked out
+    ghost position: { Self → Position };
+
+    // the set whose levels are worked out, none for sure ranks
+    ghost set: { Self → Option (List (Option ℕ)) };
+
+    // the links of the position
+    fn links(&self) -> &Links<'_, S>
+        ensures { meant S.game result.now.position ≡ position self.now };
+
+    // whether a state enters the level after `level`
+    fn enters(&self, state: u16, ranks: &Ranks, level: u8) -> bool
+        requires { State (position self.now) state }
+        ensures { Exactly (result ≡ true) (step_of (position self.now) (set self.now) (Within ranks.now.at level) state) };
+
+    // the members of the set are states of the game
+    ghost has_states: { (x : Self) → AllStates (position x) (set x) };
+}
+
+// The step of sure ranks: player 1 forces the state into the levels so far.
 #[derive(Drop)]
-pub(crate) struct Outer {
-    pub(crate) ranks: Ranks,
-    pub(crate) stay: [u8; 256],
+pub(crate) struct Force<'a, S: Source> {
+    pub(crate) links: &'a Links<'a, S>,
 }
 
-// How a state enters the next level: player 1 forces it into the levels so far, or stays in a set and touches them.
-#[derive(Clone, Copy)]
-pub(crate) enum Step<'a> {
-    Force,
-    Touch(&'a Outer),
-}
+impl<'a, S: Source> Step<S> for Force<'a, S> {
+    ghost position = { λ step. meant S.game step.links.now.position };
 
-// the step of sure ranks
-pub(crate) fn force<'a>() -> Step<'a>
-    ensures { result ≡ Force }
-{
-    Step::Force
-}
+    ghost set = { λ _. None };
 
-// Whether a state enters the level after `level`.
-fn enters<S: Source>(
-    source: &S,
-    entries: &Entries,
-    step: Step,
-    state: u16,
-    ranks: &Ranks,
-    level: u8,
-) -> bool
-    requires { (state < (S.Source.game source.now).size) × (Stays (position_of (S.Source.game source.now) entries.now.at) step) }
-    ensures { Exactly (result ≡ true) (step_of (position_of (S.Source.game source.now) entries.now.at) (set_of step.entry) (Within ranks.now.at level) state) }
-{
-    match step {
-        Step::Force => moves_into(source, entries, state, ranks, level) != 0,
-        Step::Touch(outer) => outer.ranks.within(state, HIGHEST)
-            && can_lead(
-                source,
-                entries,
-                state,
-                outer.stay[state as usize],
-                ranks,
-                level,
-            ),
+    ghost has_states = { λ _. tt };
+
+    fn links(&self) -> &Links<'_, S> {
+        self.links
+    }
+
+    fn enters(&self, state: u16, ranks: &Ranks, level: u8) -> bool {
+        self.links.position.moves_into(state, ranks, level) != 0
     }
 }
 
 // Gives the rank `level` + 1 to each state that enters there. Whether there was one.
 // A state that is not marked is not looked at; after the sweep those are marked that can enter in the next one.
-fn sweep<S: Source>(
-    source: &S,
-    entries: &Entries,
-    step: Step,
-    links: &Links,
+fn sweep<S: Source, T: Step<S>>(
+    step: &T,
     marks: &mut [bool; 256],
     ranks: &mut Ranks,
     level: u8,
 ) -> bool
     requires low { level < 255 }
-    requires whole { length ranks.old.at ≡ 256 }
-    requires stays { Stays (position_of (S.Source.game source.now) entries.now.at) step }
-    requires linked { Linked (position_of (S.Source.game source.now) entries.now.at) links.now.at }
-    requires spares { Spares (layers_of (position_of (S.Source.game source.now) entries.now.at) (set_of step)) level marks.old }
-    requires ranks { (s : ℕ) → RankUpto (layers_of (position_of (S.Source.game source.now) entries.now.at) (set_of step)) level s (rank_at ranks.old.at s) }
-    ensures whole { length ranks.new.at ≡ 256 }
-    ensures marks { Spares (layers_of (position_of (S.Source.game source.now) entries.now.at) (set_of step.entry)) (level + 1) marks.new }
-    ensures ranks { (s : ℕ) → RankUpto (layers_of (position_of (S.Source.game source.now) entries.now.at) (set_of step.entry)) (level + 1) s (rank_at ranks.new.at s) }
-    ensures entered { result ≡ false → (s : ℕ) → Enters (layers_of (position_of (S.Source.game source.now) entries.now.at) (set_of step.entry)) (level + 1) s → ⊥ }
+    requires spares { Spares (layers_of (T.position step.now) (T.set step.now)) level marks.old }
+    requires ranks { (s : ℕ) → RankUpto (layers_of (T.position step.now) (T.set step.now)) level s (rank_at ranks.old.at s) }
+    ensures marks { Spares (layers_of (T.position step.now) (T.set step.now)) (level + 1) marks.new }
+    ensures ranks { (s : ℕ) → RankUpto (layers_of (T.position step.now) (T.set step.now)) (level + 1) s (rank_at ranks.new.at s) }
+    ensures entered { result ≡ false → (s : ℕ) → Enters (layers_of (T.position step.now) (T.set step.now)) (level + 1) s → ⊥ }
 {
+    let links = step.links();
     let mut entered = false;
     let mut next = [false; 256];
-    for state in 0..source.states() {
-        if marks[state as usize]
+    for state in 0..links.position.source.states() {
+        if marks[usize::from(state)]
             && !ranks.within(state, HIGHEST)
-            && enters(source, entries, step, state, ranks, level)
+            && step.enters(state, ranks, level)
         {
             ranks.give(state, level + 1);
             links.mark_before(state, &mut next);
@@ -100,30 +87,16 @@ fn sweep<S: Source>(
     entered
 }
 
-// The ranks before the first sweep: those of the target.
-fn target_ranks<S: Source>(source: &S, entries: &Entries, step: Step) -> Ranks
-    ensures { (s : ℕ) → RankUpto (layers_of (position_of (S.Source.game source.now) entries.now.at) (set_of step.entry)) 0 s (rank_at result.at s) }
+// All ranks, each the level at which its state enters. Those of level 0 are the target.
+pub(crate) fn levels<S: Source, T: Step<S>>(step: &T) -> Ranks
+    ensures states { HasStates (T.position step.now) result.at }
+    ensures ranks { Playable (T.position step.now) → (s : ℕ) → RankFull (layers_of (T.position step.now) (T.set step.now)) s (rank_at result.at s) }
 {
-    let mut ranks = Ranks::none();
-    for state in 0..source.states() {
-        if entries.target(state) {
-            ranks.give(state, 0);
-        }
-    }
-    ranks
-}
-
-// All ranks, each the level at which its state enters.
-pub(crate) fn levels<S: Source>(source: &S, entries: &Entries, step: Step, links: &Links) -> Ranks
-    requires stays { Stays (position_of (S.Source.game source.now) entries.now.at) step }
-    requires linked { Linked (position_of (S.Source.game source.now) entries.now.at) links.now.at }
-    ensures states { (s : ℕ) → Within result.at 255 s → s < (S.Source.game source.now).size }
-    ensures ranks { Playable (position_of (S.Source.game source.now) entries.now.at) → (s : ℕ) → RankFull (layers_of (position_of (S.Source.game source.now) entries.now.at) (set_of step.entry)) s (rank_at result.at s) }
-{
-    let mut ranks = target_ranks(source, entries, step);
+    let position = step.links().position;
+    let mut ranks = Ranks::zero_where(position.source.states(), |s| position.entries.target(s));
     let mut marks = [true; 256];
     for level in 0..HIGHEST {
-        if !sweep(source, entries, step, links, &mut marks, &mut ranks, level) {
+        if !sweep(step, &mut marks, &mut ranks, level) {
             break;
         }
     }

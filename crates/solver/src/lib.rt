@@ -4,7 +4,7 @@
 pub mod entries;
 mod levels;
 mod links;
-mod moves;
 mod outer;
+mod position;
 mod ranks;
 pub mod verdicts;

@@ -1,63 +1,73 @@
-// Which states can come next after which, under the kept moves.
-ghost use Rattle.std.specs.Prelude.{◌≡◌, ℕ, ◌<◌, true, false, ◌||◌, length, slice_index_or};
+// Which states can come next after which, under the kept moves of a position.
+ghost use Rattle.std.specs.Prelude.{◌≡◌, ℕ, ◌<◌, true, false, ◌||◌, slice_index_or};
 ghost use Rattle.game.specs.Below.{elem};
-ghost use Rattle.solver.specs.Entries.{position_of};
 ghost use Rattle.solver.specs.Links.{link, Linked};
+ghost use Rattle.solver.specs.Positions.{meant};
 
-use crate::entries::Entries;
+use crate::position::Position;
 use game::bits::has_bit;
 use game::player::Player;
 use game::source::Source;
 
-// Place 256 s + t tells whether some kept moves can lead from s to t.
+// A position, and for each state those before it: the states from which some kept moves can lead to it.
 #[derive(Drop)]
-pub(crate) struct Links {
-    pub(crate) at: [bool; 65536],
+pub(crate) struct Links<'a, S: Source> {
+    pub(crate) position: Position<'a, S>,
+    pub(crate) before: [[bool; 256]; 256],
+    ghost linked: { Linked (meant S.game position) before },
 }
 
-impl Links {
-    // Marks each state from which `state` can come next; other marks stay.
-    pub(crate) fn mark_before(&self, state: u16, marks: &mut [bool; 256])
-        requires { (state < 256) × (length marks.old ≡ 256) }
-        ensures whole { length marks.new ≡ 256 }
-        ensures marks { (s : ℕ) → s < 256 → slice_index_or marks.new s false ≡ (slice_index_or marks.old s false || link self.now.at s state) }
+impl<'a, S: Source> Links<'a, S> {
+    // the links of all states
+    pub(crate) fn new(position: Position<'a, S>) -> Self
+        ensures { result.position ≡ position.entry }
     {
-        for before in 0..256u16 {
-            if self.at[before as usize * 256 + state as usize] {
-                marks[before as usize] = true;
-            }
-        }
-    }
-
-    // Notes the successors of a state under two moves.
-    fn add_support<S: Source>(&mut self, source: &S, state: u16, a: u8, b: u8)
-        requires { (state < 256) × (length self.old.at ≡ 65536) }
-        ensures whole { length self.new.at ≡ 65536 }
-        ensures stay { (i : ℕ) → slice_index_or self.old.at i false ≡ true → slice_index_or self.new.at i false ≡ true }
-        ensures noted { (t : ℕ) → elem t ((S.Source.game source.now).support state a b) ≡ true → link self.new.at state t ≡ true }
-    {
-        for k in 0..source.support_size(state, a, b) {
-            let successor = source.member(state, a, b, k);
-            self.at[state as usize * 256 + successor as usize] = true;
-        }
-    }
-}
-
-// The links of all states.
-pub(crate) fn find_links<S: Source>(source: &S, entries: &Entries) -> Links
-    ensures { Linked (position_of (S.Source.game source.now) entries.now.at) result.at }
-{
-    let mut links = Links { at: [false; 65536] };
-    for state in 0..source.states() {
-        let first = entries.kept(Player::One, state);
-        let second = entries.kept(Player::Two, state);
-        for a in 0..8u8 {
-            for b in 0..8u8 {
-                if has_bit(first, a) && has_bit(second, b) {
-                    links.add_support(source, state, a, b);
+        let mut before = [[false; 256]; 256];
+        for state in 0..position.source.states() {
+            let first = position.entries.kept(Player::One, state);
+            let second = position.entries.kept(Player::Two, state);
+            for a in 0..8u8 {
+                for b in 0..8u8 {
+                    if has_bit(first, a) && has_bit(second, b) {
+                        add_support(&mut before, position.source, state, a, b);
+                    }
                 }
             }
         }
+        Links { position, before }
     }
-    links
+
+    // Marks each state before `state`; other marks stay.
+    pub(crate) fn mark_before(&self, state: u16, marks: &mut [bool; 256])
+        requires { state < 256 }
+        ensures { (s : ℕ) → s < 256 → slice_index_or marks.new s false ≡ (slice_index_or marks.old s false || link self.now.before s state) }
+    {
+        // By number: of an array that was written through `iter_mut` a proof knows only the length.
+        for s in 0..256 {
+            marks[s] |= self.before[usize::from(state)][s];
+        }
+    }
+}
+
+// Notes a state before each of its successors under two moves.
+fn add_support<S: Source>(before: &mut [[bool; 256]; 256], source: &S, state: u16, a: u8, b: u8)
+    requires { state < 256 }
+    ensures stay { (s t : ℕ) → link before.old s t ≡ true → link before.new s t ≡ true }
+    ensures noted { (t : ℕ) → elem t ((S.Source.game source.now).support state a b) ≡ true → link before.new state t ≡ true }
+{
+    for k in 0..source.support_size(state, a, b) {
+        note(
+            &mut before[usize::from(source.member(state, a, b, k))],
+            state,
+        );
+    }
+}
+
+// Notes a state in a row.
+fn note(row: &mut [bool; 256], state: u16)
+    requires { state < 256 }
+    ensures stay { (s : ℕ) → slice_index_or row.old s false ≡ true → slice_index_or row.new s false ≡ true }
+    ensures noted { slice_index_or row.new state false ≡ true }
+{
+    row[usize::from(state)] = true;
 }

@@ -1,88 +1,102 @@
 // The almost-sure states: sets of states, each the union of the levels of the one before, until one is its own.
-ghost use Rattle.std.specs.Prelude.{◌≡◌, ℕ, ◌<◌, true};
+ghost use Rattle.std.specs.Prelude.{◌≡◌, ℕ, Some};
 ghost use Rattle.theory.specs.Laws.{Exactly};
 ghost use Rattle.theory.specs.Positions.{Playable};
 ghost use Rattle.theory.specs.Ranking.{Within, rank_at, RankFull};
 ghost use Rattle.theory.specs.Verdicts.{Level, Outer as OuterSet, OuterRounds};
-ghost use Rattle.solver.specs.Entries.{position_of};
-ghost use Rattle.solver.specs.Links.{Linked};
-ghost use Rattle.solver.specs.Steps.{StaysIn};
+ghost use Rattle.solver.specs.Positions.{meant};
+ghost use Rattle.solver.specs.Steps.{StaysIn, HasStates};
 
-use crate::entries::Entries;
-use crate::levels::{Outer, Step, levels};
+use crate::levels::{Step, levels};
 use crate::links::Links;
-use crate::moves::moves_into;
 use crate::ranks::{HIGHEST, Ranks};
-use game::source::Source;
+use game::source::{MOST_STATES, Source};
 
-// The set of all states of the game.
-fn all_states<S: Source>(source: &S) -> Ranks
-    ensures { (s : ℕ) → Exactly (Within result.at 255 s) (s < (S.Source.game source.now).size) }
-{
-    let mut ranks = Ranks::none();
-    for state in 0..source.states() {
-        ranks.give(state, 0);
-    }
-    ranks
+// A set of states, those that have a rank, and at each of them the moves that stay in the set. (Two arrays: ranks are used by themselves.)
+#[derive(Drop)]
+pub(crate) struct Outer<'a, S: Source> {
+    pub(crate) links: &'a Links<'a, S>,
+    pub(crate) ranks: Ranks,
+    pub(crate) stay: [u8; 256],
+    ghost stays: { StaysIn (meant S.game links.now.position) ranks.at stay },
+    ghost states: { HasStates (meant S.game links.now.position) ranks.at },
 }
 
-// The set of all states that have a rank, with the moves that stay in it.
-fn with_stay_moves<S: Source>(source: &S, entries: &Entries, ranks: Ranks) -> Outer
-    requires { (s : ℕ) → Within ranks.at 255 s → s < (S.Source.game source.now).size }
-    ensures ranks { result.ranks ≡ ranks }
-    ensures stay { StaysIn (position_of (S.Source.game source.now) entries.now.at) result }
-{
-    let mut stay = [0; 256];
-    for state in 0..256u16 {
-        if ranks.within(state, HIGHEST) {
-            stay[state as usize] = moves_into(source, entries, state, &ranks, HIGHEST);
+impl<'a, S: Source> Outer<'a, S> {
+    // the set of the states that have a rank
+    fn new(links: &'a Links<'a, S>, ranks: Ranks) -> Self
+        requires { HasStates (meant S.game links.now.position) ranks.at }
+        ensures position { result.links.now.position ≡ links.now.position }
+        ensures ranks { result.ranks ≡ ranks }
+    {
+        let mut stay = [0; 256];
+        // By number: of an array that was written through `iter_mut` a proof knows only the length.
+        for state in 0..MOST_STATES {
+            if ranks.within(state, HIGHEST) {
+                stay[usize::from(state)] = links.position.moves_into(state, &ranks, HIGHEST);
+            }
         }
+        Outer { links, ranks, stay }
     }
-    Outer { ranks, stay }
 }
 
-// Whether each state that has a rank in `outer` has one in `inner`.
-fn covers(outer: &Ranks, inner: &Ranks) -> bool
-    ensures { Exactly (result ≡ true) ((s : ℕ) → s < 256 → Within outer.now.at 255 s → Within inner.now.at 255 s) }
-{
-    for state in 0..256u16 {
-        if outer.within(state, HIGHEST) && !inner.within(state, HIGHEST) {
-            return false;
-        }
+// The step of the levels of a set: player 1 stays in the set and touches the levels so far.
+impl<'a, S: Source> Step<S> for Outer<'a, S> {
+    ghost position = { λ outer. meant S.game outer.links.now.position };
+
+    ghost set = { λ outer. Some outer.ranks.at };
+
+    ghost has_states = { λ outer. outer.states };
+
+    fn links(&self) -> &Links<'_, S> {
+        self.links
     }
-    true
+
+    fn enters(&self, state: u16, ranks: &Ranks, level: u8) -> bool {
+        self.ranks.within(state, HIGHEST)
+            && self
+                .links
+                .position
+                .can_lead(state, self.stay[usize::from(state)], ranks, level)
+    }
 }
 
 // The almost-sure states with their stay moves, their levels, and the number of outer rounds.
 #[derive(Drop)]
-pub(crate) struct AlmostSure {
-    pub(crate) outer: Outer,
+pub(crate) struct AlmostSure<'a, S: Source> {
+    pub(crate) outer: Outer<'a, S>,
     pub(crate) levels: Ranks,
     pub(crate) rounds: u16,
 }
 
-pub(crate) fn almost_sure_states<S: Source>(
-    source: &S,
-    entries: &Entries,
-    links: &Links,
-) -> AlmostSure
-    requires { Linked (position_of (S.Source.game source.now) entries.now.at) links.now.at }
-    ensures stay { StaysIn (position_of (S.Source.game source.now) entries.now.at) result.outer }
-    ensures rounds { Playable (position_of (S.Source.game source.now) entries.now.at) → OuterRounds (position_of (S.Source.game source.now) entries.now.at) result.rounds }
-    ensures outer { Playable (position_of (S.Source.game source.now) entries.now.at) → (s : ℕ) → Exactly (Within result.outer.ranks.at 255 s) (OuterSet (position_of (S.Source.game source.now) entries.now.at) result.rounds s) }
-    ensures levels { Playable (position_of (S.Source.game source.now) entries.now.at) → (s : ℕ) → RankFull (Level (position_of (S.Source.game source.now) entries.now.at) (Within result.outer.ranks.at 255)) s (rank_at result.levels.at s) }
-{
-    let mut set = with_stay_moves(source, entries, all_states(source));
-    let mut inner = levels(source, entries, Step::Touch(&set), links);
-    let mut rounds = 0;
-    while rounds < 256 && !covers(&set.ranks, &inner) {
-        set = with_stay_moves(source, entries, inner);
-        inner = levels(source, entries, Step::Touch(&set), links);
-        rounds += 1;
-    }
-    AlmostSure {
-        outer: set,
-        levels: inner,
-        rounds,
+impl<'a, S: Source> AlmostSure<'a, S> {
+    // the almost-sure states of the position of the links
+    pub(crate) fn new(links: &'a Links<'a, S>) -> Self
+        ensures position { result.outer.links.now.position ≡ links.now.position }
+        ensures rounds { Playable (meant S.game links.now.position) → OuterRounds (meant S.game links.now.position) result.rounds }
+        ensures outer { Playable (meant S.game links.now.position) → (s : ℕ) → Exactly (Within result.outer.ranks.at 255 s) (OuterSet (meant S.game links.now.position) result.rounds s) }
+        ensures levels { Playable (meant S.game links.now.position) → (s : ℕ) → RankFull (Level (meant S.game links.now.position) (Within result.outer.ranks.at 255)) s (rank_at result.levels.at s) }
+    {
+        let mut outer = Outer::new(
+            links,
+            Ranks::zero_where(links.position.source.states(), |_| true),
+        );
+        let mut inner = levels(&outer);
+        for rounds in 0..MOST_STATES {
+            if inner.covers(&outer.ranks) {
+                return AlmostSure {
+                    outer,
+                    levels: inner,
+                    rounds,
+                };
+            }
+            outer = Outer::new(links, inner);
+            inner = levels(&outer);
+        }
+        AlmostSure {
+            outer,
+            levels: inner,
+            rounds: MOST_STATES,
+        }
     }
 }

@@ -4,7 +4,7 @@ use Rattle.theory.specs.Laws.{Exactly}
 use Rattle.theory.specs.Positions.{Position}
 use Rattle.theory.specs.Ranking.{rank_at, Within}
 use Rattle.theory.specs.Verdicts.{Stay}
-use Rattle.solver.specs.Entries.{position_of}
+use Rattle.solver.specs.Positions.{meant}
 use Rattle.solver.specs.Moves.{LowerMove}
 use Rattle.solver.proofs.verdicts.sure_verdict.Goals as goal
 
@@ -16,10 +16,6 @@ lower_moves x ranks s r c is above stays a =
       λ (q, is_q, stay). let same : r ≡ suc q = cc in (stays a).1 (subst (λ k. Stay x (Within ranks k) s a) {y = r - 1} (omega arith) stay),
     )
 
-pub returns-in-Some : goal.returns-in-Some
-returns-in-Some g c = record {
-  rank = c.in-Some.ensures;
-  moves =
-      lower_moves (position_of (g.S.Source.game c.args.source.now) c.args.entries.now.at) c.args.ranks.now.at c.args.state c.in-Some.r c.moves_into-moves.result
-      (sym c.in-Some.ensures) c.if-r-gt0.true c.moves_into-moves.ensures;
-}
+pub returns-then-rank-gt0-clause-moves : goal.returns-then-rank-gt0-clause-moves
+returns-then-rank-gt0-clause-moves g c =
+    lower_moves (meant g.S.Source.game c.args.position.now) c.args.ranks.now.at c.args.state c.in_ok-rank.rank c.moves_into-moves.result (sym c.in_ok-rank.ensures) c.if-rank-gt0.true c.moves_into-moves.ensures

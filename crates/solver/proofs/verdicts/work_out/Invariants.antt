@@ -3,4 +3,4 @@ use Rattle.solver.proofs.verdicts.work_out.Given as goal
 
 -- the verdicts on the states so far are put in
 abbrev pub invariant-loop-state : goal.invariant-loop-state
-invariant-loop-state g l = Held (g.S.Source.game l.source) l.initial.entries.at l.sure.at l.almost.levels.at l.almost.outer.stay l.state l.entries.at
+invariant-loop-state g l = Held (g.S.Source.game l.source) l.initial.entries.at l.sure.at l.almost.at l.stay l.state l.entries.at

@@ -1,8 +1,11 @@
-use Rattle.std.proofs.Common.{◌≡◌, length}
+use Rattle.std.proofs.Common.{◌≡◌, ℕ, ◌<◌, ◌≤◌, false, ◌||◌, length, get_or}
 use Rattle.solver.specs.Links.{link}
-use Rattle.solver.proofs.Linking.{MarksUpto}
 use Rattle.solver.proofs.links.Links.mark_before.Given as goal
 
--- the states so far are marked where they lead to `state`
-abbrev pub invariant-loop-before : goal.invariant-loop-before
-invariant-loop-before l = (length l.marks ≡ 256) × MarksUpto (λ s. link l.self.at s l.state) l.initial.marks l.marks l.before
+-- the states so far are marked where they are before `state`, and the others as they were
+abbrev pub invariant-loop-s : goal.invariant-loop-s
+invariant-loop-s g l = record {
+  whole : length l.marks ≡ 256;
+  seen : (s : ℕ) → s < l.s → get_or l.marks s false ≡ (get_or l.initial.marks s false || link l.self.before s l.state);
+  unseen : (s : ℕ) → l.s ≤ s → get_or l.marks s false ≡ get_or l.initial.marks s false;
+}
