@@ -5,28 +5,33 @@ use Rattle.game.specs.declared.refusal.Refusal.{Refusal}
 use Rattle.theory.specs.Benches.{Call, mark, unmark, Answer, done, refused, ranked, not_winning, set, replied}
 use Rattle.bench.specs.declared.bench.Reply.{Reply}
 
--- a state is put into the target, or taken out; a move is allowed, or barred
+-- a state is put into the target, or taken out
 abbrev pub target_call : Bool → ℕ → Call
 target_call true s = mark s
 target_call false s = unmark s
 
--- the answer to an edit
+-- what a call answers: what `says` makes of its value, or why it is refused
+abbrev pub answered : {A : Type 0} → (A → Answer) → Result A Refusal → Answer
+answered says (Ok a) = says a
+answered says (Err why) = refused (told why)
+
+-- the rank of a state, or that it is not winning
+abbrev pub rank_said : Option ℕ → Answer
+rank_said (Some rank) = ranked rank
+rank_said None = not_winning
+
+-- the answers to an edit, to verdict, to moves and to reply
 abbrev pub edited : Result Unit Refusal → Answer
-edited (Ok _) = done
-edited (Err why) = refused (told why)
+edited = answered (λ _. done)
 
--- the answer to verdict
 abbrev pub judged : Result (Option ℕ) Refusal → Answer
-judged (Ok (Some rank)) = ranked rank
-judged (Ok None) = not_winning
-judged (Err why) = refused (told why)
+judged = answered rank_said
 
--- the answer to moves
 abbrev pub handed : Result ℕ Refusal → Answer
-handed (Ok moves) = set moves
-handed (Err why) = refused (told why)
+handed = answered set
 
--- the answer to reply
+abbrev pub reply_said : Reply → Answer
+reply_said reply = replied reply.b reply.successor
+
 abbrev pub countered : Result Reply Refusal → Answer
-countered (Ok reply) = replied reply.b reply.successor
-countered (Err why) = refused (told why)
+countered = answered reply_said

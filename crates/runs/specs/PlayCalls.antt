@@ -1,13 +1,12 @@
 -- What calls and answers of a play stand for, and what a list of them comes to.
-use Rattle.std.specs.Prelude.{◌≡◌, ℕ, ◌<◌, ◌≤◌, Bool, true, ◌⊎◌, List, ◌∷◌, map, reverse, length, take, drop, Some, None}
-use Rattle.game.specs.Refusals.{Told, told, bare}
+use Rattle.std.specs.Prelude.{◌≡◌, ℕ, ◌<◌, ◌≤◌, Bool, true, ◌⊎◌, List, ◌∷◌, map, reverse, length, take, drop, Some, None, Result}
+use Rattle.game.specs.Refusals.{Told, bare}
+use Rattle.game.specs.declared.refusal.Refusal.{Refusal}
 use Rattle.theory.specs.Plays.{rests, opened, commit, settle, abandon, taken, refused, Begin, Played, Guided}
 use Rattle.theory.specs.Plays as plays
 use Rattle.theory.specs.Positions.{Position}
 use Rattle.theory.specs.Verdicts.{SureRank}
-use Rattle.bench.specs.Rounds.{rest_of, rest_in}
-use Rattle.runs.specs.declared.play_call.PlayAnswer.{PlayAnswer}
-use Rattle.runs.specs.declared.play_call.PlayAnswer.TheVariants.{Taken, Refused}
+use Rattle.bench.specs.Rounds.{rest_of, rest_in, call_answer}
 use Rattle.runs.specs.declared.play_call.PlayCall.{PlayCall}
 use Rattle.runs.specs.declared.play_call.PlayCall.TheVariants.{Commit, Settle, Abandon}
 use Rattle.runs.specs.declared.play_call.Stage.{Stage}
@@ -18,10 +17,6 @@ call_of (Commit a) = commit a
 call_of (Settle b t) = settle b t
 call_of Abandon = abandon
 
-abbrev pub answer_of : PlayAnswer → plays.Answer
-answer_of Taken = taken
-answer_of (Refused why) = refused (told why)
-
 abbrev pub play_of : Stage → plays.Play
 play_of (AtRest p) = rests (rest_of p)
 play_of (Round o) = opened (rest_in o) o.a
@@ -30,8 +25,8 @@ play_of (Round o) = opened (rest_in o) o.a
 abbrev pub calls_of : List PlayCall → List plays.Call
 calls_of calls = map call_of (reverse calls)
 
-abbrev pub answers_of : List PlayAnswer → List plays.Answer
-answers_of answers = map answer_of (reverse answers)
+abbrev pub answers_of : List (Result Unit Refusal) → List plays.Answer
+answers_of answers = map call_answer (reverse answers)
 
 -- a commit has its place at rest, a settle or an abandon in an open round
 abbrev pub OutOfPlace : plays.Play → plays.Call → Type 0
@@ -45,7 +40,7 @@ OutOfPlace (opened p a) abandon = ⊥
 -- What a list of calls of a play begun at s comes to: the answers are those of the calls, one after the other, up to the first call that is
 -- out of place, and what lay behind them stays. And if s is sure and the play went by the moves handed out, it has met the target once the
 -- rank of s in rounds is settled.
-pub record PlayedAll (x : Position) (solved : Bool) (s : ℕ) (calls : List PlayCall) (old new : List PlayAnswer) (made : ℕ) (p : plays.Play) : Type 0 where
+pub record PlayedAll (x : Position) (solved : Bool) (s : ℕ) (calls : List PlayCall) (old new : List (Result Unit Refusal)) (made : ℕ) (p : plays.Play) : Type 0 where
   pub begun : Begin x solved s taken (Some (plays.begun x s))
   pub room : length calls ≤ length old
   pub few : made ≤ length calls
@@ -55,6 +50,6 @@ pub record PlayedAll (x : Position) (solved : Bool) (s : ℕ) (calls : List Play
   pub arrives : (r : ℕ) → SureRank x r s → Guided played → r ≤ (plays.resting p).rounds → (plays.resting p).met ≡ true
 
 -- The play cannot be begun, or there is no room for the answers; none is written.
-pub data NotPlayed (x : Position) (solved : Bool) (s : ℕ) (calls : List PlayCall) (old new : List PlayAnswer) (t : Told) : Type 0 where
+pub data NotPlayed (x : Position) (solved : Bool) (s : ℕ) (calls : List PlayCall) (old new : List (Result Unit Refusal)) (t : Told) : Type 0 where
   not_begun : Begin x solved s (refused t) None → new ≡ old → NotPlayed x solved s calls old new t
   no_room : Begin x solved s taken (Some (plays.begun x s)) → length old < length calls → new ≡ old → t ≡ bare 21 → NotPlayed x solved s calls old new t

@@ -2,10 +2,9 @@
 use bench::bench::Reply;
 use game::mode::Mode;
 use game::player::Player;
-use game::refusal::Refusal;
 use solver::verdicts::Tally;
 
-#[derive(Clone, Copy)]
+#[derive(Clone, Copy, PartialEq, Eq, Debug)]
 pub enum Call {
     Mark(u16),
     Unmark(u16),
@@ -17,16 +16,15 @@ pub enum Call {
     Reply(u16, u8),
 }
 
-#[derive(Clone, Copy)]
+// What a call that is not refused answers.
+#[derive(Clone, Copy, PartialEq, Eq, Debug)]
 pub enum Answer {
     // an edit was made
     Done,
-    Refused(Refusal),
     // what solve tells
     Told(Tally),
-    // the rank of a winning state
-    Ranked(u8),
-    NotWinning,
+    // the rank of a state, none where it is not winning
+    Ranked(Option<u8>),
     // the moves handed out, one bit for each move
     Set(u8),
     Replied(Reply),

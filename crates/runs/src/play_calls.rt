@@ -3,9 +3,10 @@ ghost use Rattle.std.specs.Prelude.{◌≡◌, MatchOption, MatchResult};
 ghost use Rattle.game.specs.Refusals.{told};
 ghost use Rattle.theory.specs.Plays.{Step};
 ghost use Rattle.bench.specs.Held.{position};
-ghost use Rattle.runs.specs.PlayCalls.{call_of, answer_of, play_of, OutOfPlace, PlayedAll, NotPlayed};
+ghost use Rattle.bench.specs.Rounds.{call_answer};
+ghost use Rattle.runs.specs.PlayCalls.{call_of, play_of, OutOfPlace, PlayedAll, NotPlayed};
 
-use crate::play_call::{PlayAnswer, PlayCall, Stage};
+use crate::play_call::{PlayCall, Stage};
 use bench::bench::Bench;
 use bench::play::{OpenRound, Play};
 use game::refusal::Refusal;
@@ -16,31 +17,22 @@ fn make_play_call<S: Source>(
     bench: &Bench<S>,
     stage: Stage,
     call: PlayCall,
-) -> (Stage, Option<PlayAnswer>)
-    ensures { MatchOption result.1 (OutOfPlace (play_of stage) (call_of call) × (play_of result.0 ≡ play_of stage)) (λ answer. Step (position (S.Source.game bench.now.source) bench.now) (play_of stage) (call_of call) (answer_of answer) (play_of result.0)) }
+) -> (Stage, Option<Result<(), Refusal>>)
+    ensures { MatchOption result.1 (OutOfPlace (play_of stage) (call_of call) × (play_of result.0 ≡ play_of stage)) (λ answer. Step (position bench.now) (play_of stage) (call_of call) (call_answer answer) (play_of result.0)) }
 {
-    match stage {
-        Stage::Rest(play) => match call {
-            PlayCall::Commit(a) => match play.commit(bench, a) {
-                Ok(round) => (Stage::Round(round), Some(PlayAnswer::Taken)),
-                Err(back) => {
-                    let (play, refusal) = back;
-                    (Stage::Rest(play), Some(PlayAnswer::Refused(refusal)))
-                }
-            },
-            _ => (Stage::Rest(play), None),
+    match (stage, call) {
+        (Stage::Rest(play), PlayCall::Commit(a)) => match play.commit(bench, a) {
+            Ok(round) => (Stage::Round(round), Some(Ok(()))),
+            Err((play, refusal)) => (Stage::Rest(play), Some(Err(refusal))),
         },
-        Stage::Round(round) => match call {
-            PlayCall::Settle(b, successor) => match round.settle(bench, b, successor) {
-                Ok(play) => (Stage::Rest(play), Some(PlayAnswer::Taken)),
-                Err(back) => {
-                    let (round, refusal) = back;
-                    (Stage::Round(round), Some(PlayAnswer::Refused(refusal)))
-                }
-            },
-            PlayCall::Abandon => (Stage::Rest(round.abandon()), Some(PlayAnswer::Taken)),
-            PlayCall::Commit(_) => (Stage::Round(round), None),
-        },
+        (Stage::Round(round), PlayCall::Settle(b, successor)) => {
+            match round.settle(bench, b, successor) {
+                Ok(play) => (Stage::Rest(play), Some(Ok(()))),
+                Err((round, refusal)) => (Stage::Round(round), Some(Err(refusal))),
+            }
+        }
+        (Stage::Round(round), PlayCall::Abandon) => (Stage::Rest(round.abandon()), Some(Ok(()))),
+        (stage, _) => (stage, None),
     }
 }
 
@@ -56,24 +48,26 @@ pub fn make_play_calls<S: Source>(
     bench: &Bench<S>,
     state: u16,
     calls: &[PlayCall],
-    answers: &mut [PlayAnswer],
+    answers: &mut [Result<(), Refusal>],
 ) -> Result<Played, Refusal>
-    ensures { MatchResult result (λ played. PlayedAll (position (S.Source.game bench.now.source) bench.now) bench.now.solved state calls.now answers.old answers.new played.made (play_of played.stage)) (λ e. NotPlayed (position (S.Source.game bench.now.source) bench.now) bench.now.solved state calls.now answers.old answers.new (told e)) }
+    ensures { MatchResult result (λ played. PlayedAll (position bench.now) bench.now.solved state calls.now answers.old answers.new played.made (play_of played.stage)) (λ e. NotPlayed (position bench.now) bench.now.solved state calls.now answers.old answers.new (told e)) }
 {
     let play = bench.begin(state)?;
     if answers.len() < calls.len() {
         return Err(Refusal::ShortBuffer);
     }
     let mut stage = Stage::Rest(play);
-    let mut made = 0;
-    while made < calls.len() {
-        let (next, answer) = make_play_call(bench, stage, calls[made]);
+    // By number: of a slice that was written through `iter_mut` a proof knows only the length.
+    for (made, call) in calls.iter().enumerate() {
+        let (next, answer) = make_play_call(bench, stage, *call);
         stage = next;
         match answer {
             Some(answer) => answers[made] = answer,
-            None => break,
+            None => return Ok(Played { stage, made }),
         }
-        made += 1;
     }
-    Ok(Played { stage, made })
+    Ok(Played {
+        stage,
+        made: calls.len(),
+    })
 }

@@ -1,16 +1,13 @@
-use Rattle.std.proofs.Common.{refl}
+use Rattle.std.proofs.Common.{rules}
+use Rattle.bench.proofs.Sound.{playable_known}
 use Rattle.bench.proofs.Solved.{solve_step, solve_sound}
 use Rattle.bench.proofs.bench.Bench.solve.Goals as goal
 
-pub returns : goal.returns
-returns g c =
-    let game = g.S.Source.game c.args.self.now.source in
-    let b = c.args.self.now in
-    let new = c.work_out-tally.new.entries in
-    let tally = c.work_out-tally.result in
+pub invariant_of-self : goal.invariant_of-self
+invariant_of-self g c =
     let says = c.work_out-tally.ensures in
-    record {
-      stays = (refl, refl, (says.kept, says.target));
-      step = λ sound. solve_step game b new says.kept says.target tally.sure tally.almost tally.rounds (says.sure sound.playable) (says.almost sound.playable) (says.rounds sound.playable);
-      sound = λ sound. solve_sound game b new says.kept says.target sound.playable (says.ranks sound.playable) (says.moves sound.playable);
-    }
+    let ok = playable_known (g.S.Source.valid c.args.self.now.source) c.args.self.now.sound in
+    record { sound = solve_sound (g.S.Source.game c.args.self.now.source) c.args.self.now.entries.at c.work_out-tally.new.entries.at says.kept says.target ok (says.ranks ok) (says.moves ok) }
+
+pub returns-clause-step : goal.returns-clause-step
+returns-clause-step g c = search (rules, solve_step, playable_known)
