@@ -1,6 +1,6 @@
 // Edits of a bench and questions to it, each printed with what came.
-use crate::names::{mode_name, player_number};
-use crate::show::{AtRest, Refused};
+// Name and bench are no struct: a bench is printed under several names, and a round takes two benches.
+use crate::show::AtRest;
 use bench::bench::{Bench, Reply};
 use bench::play::Play;
 use game::mode::Mode;
@@ -9,6 +9,8 @@ use game::refusal::Refusal;
 use game::source::Source;
 use std::{fmt, io};
 
+// The enum `Call` of the crate `runs` holds the same edits and questions: with it, making an edit would have to refuse a question, and the
+// other way round.
 #[derive(Clone, Copy)]
 pub enum Edit {
     Mark(u16),
@@ -33,12 +35,8 @@ impl fmt::Display for Edit {
         match *self {
             Edit::Mark(state) => write!(f, "mark {state}"),
             Edit::Unmark(state) => write!(f, "unmark {state}"),
-            Edit::Bar(player, state, m) => {
-                write!(f, "bar {} {state} {m}", player_number(player))
-            }
-            Edit::Allow(player, state, m) => {
-                write!(f, "allow {} {state} {m}", player_number(player))
-            }
+            Edit::Bar(player, state, m) => write!(f, "bar {player} {state} {m}"),
+            Edit::Allow(player, state, m) => write!(f, "allow {player} {state} {m}"),
         }
     }
 }
@@ -54,8 +52,7 @@ pub enum Question {
 // What a question is answered.
 #[derive(Drop)]
 enum Told {
-    Rank(u8),
-    NotWinning,
+    Rank(Option<u8>),
     Moves(u8),
     Countered(Reply),
     Begun(Play),
@@ -63,24 +60,20 @@ enum Told {
 
 impl Question {
     fn put<S: Source>(&self, bench: &Bench<S>) -> Result<Told, Refusal> {
-        let told = match *self {
-            Question::Verdict(mode, state) => match bench.verdict(mode, state)? {
-                Some(rank) => Told::Rank(rank),
-                None => Told::NotWinning,
-            },
-            Question::Moves(mode, state) => Told::Moves(bench.moves(mode, state)?),
-            Question::Reply(state, a) => Told::Countered(bench.reply(state, a)?),
-            Question::Begin(state) => Told::Begun(bench.begin(state)?),
-        };
-        Ok(told)
+        match *self {
+            Question::Verdict(mode, state) => bench.verdict(mode, state).map(Told::Rank),
+            Question::Moves(mode, state) => bench.moves(mode, state).map(Told::Moves),
+            Question::Reply(state, a) => bench.reply(state, a).map(Told::Countered),
+            Question::Begin(state) => bench.begin(state).map(Told::Begun),
+        }
     }
 }
 
 impl fmt::Display for Question {
     fn fmt<W: fmt::Write>(&self, f: &mut fmt::Formatter<W>) -> fmt::Result {
         match *self {
-            Question::Verdict(mode, state) => { write!(f, "verdict {} {state}", mode_name(mode)) }
-            Question::Moves(mode, state) => write!(f, "moves {} {state}", mode_name(mode)),
+            Question::Verdict(mode, state) => write!(f, "verdict {mode} {state}"),
+            Question::Moves(mode, state) => write!(f, "moves {mode} {state}"),
             Question::Reply(state, a) => write!(f, "reply {state} {a}"),
             Question::Begin(state) => write!(f, "begin {state}"),
         }
@@ -90,10 +83,10 @@ impl fmt::Display for Question {
 impl fmt::Display for Told {
     fn fmt<W: fmt::Write>(&self, f: &mut fmt::Formatter<W>) -> fmt::Result {
         match self {
-            Told::Rank(rank) => write!(f, "rank {rank}"),
-            Told::NotWinning => write!(f, "not winning"),
+            Told::Rank(Some(rank)) => write!(f, "rank {rank}"),
+            Told::Rank(None) => write!(f, "not winning"),
             Told::Moves(moves) => write!(f, "set {moves:02x}"),
-            Told::Countered(Reply { b, successor }) => write!(f, "move {b} to {successor}"),
+            Told::Countered(reply) => write!(f, "{reply}"),
             Told::Begun(play) => write!(f, "{}", AtRest(play)),
         }
     }
@@ -118,7 +111,7 @@ pub fn make_edit<S: Source>(
     print!(rt; "{name}: {edit}: ")?;
     match edit.make(bench) {
         Ok(()) => print!(rt; "done")?,
-        Err(refusal) => print!(rt; "{}", Refused(refusal))?,
+        Err(refusal) => print!(rt; "{refusal}")?,
     }
     println!(rt; "; {}", solved(bench))
 }
@@ -146,7 +139,7 @@ pub fn ask<S: Source>(
     for question in questions {
         match question.put(bench) {
             Ok(told) => println!(rt; "{name}: {question}: {told}")?,
-            Err(refusal) => println!(rt; "{name}: {question}: {}", Refused(refusal))?,
+            Err(refusal) => println!(rt; "{name}: {question}: {refusal}")?,
         }
     }
     Ok(())

@@ -1,10 +1,11 @@
 // Edits of benches on game H, refused and accepted.
 use crate::calls::{Edit, Question, ask, make_edit, make_edits};
-use crate::games::{HIDE, solved_on};
+use crate::games::solved_on;
 use crate::held::print_held;
 use crate::verdicts::{print_solved, print_tally, print_verdicts};
 use game::mode::Mode;
 use game::player::Player;
+use samples::HIDE;
 use std::io;
 
 // All are refused while 3 is the target and player 2's move 1 is barred at 0.

@@ -3,16 +3,6 @@ use bench::bench::Bench;
 use records::table::Table;
 use std::alloc::{AllocError, Global};
 
-// One state, and move 0 for both players.
-pub const ONE: [u8; 8] = *b"\0\x01\x01\x01\0\0\0\x01";
-
-// Game H: 0 hide, 1 safe, 2 wet, 3 home.
-pub const HIDE: [u8; 44] = *b"\x03\
-    \x03\x03\x01\0\0\0\x01\x01\0\0\0\x02\x01\0\0\0\x08\x01\0\0\0\x04\
-    \x01\x01\x01\0\0\0\x08\
-    \x01\x01\x01\0\0\0\x04\
-    \x01\x01\x01\0\0\0\x08";
-
 // At 0 both players have two moves; equal ones lead to 1 and unequal ones to 0. State 1 leads to itself.
 pub const EQUAL: [u8; 30] = *b"\x01\
     \x03\x03\x01\0\0\0\x02\x01\0\0\0\x01\x01\0\0\0\x01\x01\0\0\0\x02\
@@ -55,7 +45,7 @@ fn put_row(record: &mut Vec<u8>, low: u8, high: u8) -> Result<(), AllocError> {
     Ok(())
 }
 
-// 256 states in a line: each leads to the one below, and 0 to itself.
+// 256 states in a line: each leads to the one below, and 0 to itself. (The program `large_games` builds the same by steps of its own.)
 pub fn line(heap: Global) -> Result<Vec<u8>, AllocError> {
     let mut record = Vec::from_slice(heap, &[255])?;
     put_row(&mut record, 0, 0)?;
@@ -76,11 +66,16 @@ pub fn stairs(heap: Global) -> Result<Vec<u8>, AllocError> {
     Ok(record)
 }
 
-// A new bench on the game of a record.
-pub fn bench_on<'a>(record: &'a [u8]) -> Bench<Table<'a>> {
+// A table opened on a record. The program `record_cases` has the same: a public function would need a contract and an edit, and be longer.
+pub fn table_on(record: &[u8]) -> Table<'_> {
     let mut table = Table::new();
     let _ = table.open(record);
-    Bench::open(table)
+    table
+}
+
+// A new bench on the game of a record.
+pub fn bench_on(record: &[u8]) -> Bench<Table<'_>> {
+    Bench::open(table_on(record))
 }
 
 // A solved bench on the game of a record, with the target marked.

@@ -1,24 +1,20 @@
 // Plays from the moves handed out.
-use crate::games::{CHAIN, HIDE, line, solved_on};
+use crate::games::{CHAIN, line, solved_on};
 use crate::show::AtRest;
 use bench::bench::Bench;
 use bench::play::{MOST_ROUNDS, OpenRound, Play};
-use game::bits::has_bit;
 use game::mode::Mode;
 use game::source::Source;
+use samples::HIDE;
 use std::io;
 
 // Settles an open round by the lowest move of player 2 and its highest successor, found by trying.
-fn settle_first<S: Source>(bench: &Bench<S>, open: OpenRound) -> Play {
-    let mut open = open;
+fn settle_first<S: Source>(bench: &Bench<S>, mut open: OpenRound) -> Play {
     for b in 0..8 {
-        for k in 0..256 {
-            match open.settle(bench, b, 255 - k) {
+        for successor in (0..256).rev() {
+            match open.settle(bench, b, successor) {
                 Ok(play) => return play,
-                Err(back) => {
-                    let (again, _) = back;
-                    open = again;
-                }
+                Err((again, _)) => open = again,
             }
         }
     }
@@ -29,34 +25,26 @@ fn settle_first<S: Source>(bench: &Bench<S>, open: OpenRound) -> Play {
 pub fn play_on<S: Source>(bench: &Bench<S>, play: Play, a: u8) -> Play {
     match play.commit(bench, a) {
         Ok(open) => settle_first(bench, open),
-        Err(back) => {
-            let (play, _) = back;
-            play
-        }
+        Err((play, _)) => play,
     }
 }
 
 // The lowest move of a set.
 fn lowest(moves: u8) -> u8 {
-    for m in 0..8 {
-        if has_bit(moves, m) {
-            return m;
-        }
-    }
-    8
+    // at most 8, so it fits; the program `gate` has the same line: a public function would need a contract and an edit
+    moves.trailing_zeros() as u8
 }
 
 // Plays from the moves handed out in mode sure until the target is met, or none is handed out.
-fn follow<S: Source>(bench: &Bench<S>, play: Play) -> Play {
-    let mut play = play;
+fn follow<S: Source>(bench: &Bench<S>, mut play: Play) -> Play {
     for _ in 0..MOST_ROUNDS {
         if play.met() {
             break;
         }
-        match bench.moves(Mode::Sure, play.state()) {
-            Ok(moves) => play = play_on(bench, play, lowest(moves)),
-            Err(_) => break,
-        }
+        let Ok(moves) = bench.moves(Mode::Sure, play.state()) else {
+            break;
+        };
+        play = play_on(bench, play, lowest(moves));
     }
     play
 }

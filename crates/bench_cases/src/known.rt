@@ -1,9 +1,10 @@
 // The known games.
 use crate::calls::{Edit, Question, ask, make_edit};
 use crate::cases::{Case, solve_all};
-use crate::games::{CHAIN, DRIFT, EQUAL, HIDE, ONE, bench_on};
+use crate::games::{CHAIN, DRIFT, EQUAL, bench_on};
 use crate::verdicts::print_solved;
 use game::player::Player;
+use samples::{HIDE, ONE};
 use std::io;
 
 const GAMES: [Case; 4] = [

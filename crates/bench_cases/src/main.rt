@@ -12,7 +12,6 @@ mod held;
 mod known;
 mod large;
 mod monitored;
-mod names;
 mod plays;
 mod questions;
 mod replies;

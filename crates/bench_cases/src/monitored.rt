@@ -1,17 +1,15 @@
 // Benches on monitored games.
 use crate::calls::Edit;
 use crate::cases::solve;
-use crate::games::{DRIFT, HIDE};
+use crate::games::{DRIFT, table_on};
 use crate::guided::print_guided;
 use bench::bench::Bench;
 use game::player::Player;
 use game::source::Source;
 use monitor::Monitored;
 use records::table::Table;
+use samples::{HIDE, SAFE_SEEN};
 use std::io;
-
-// A monitor of two states over game H: state 1 of the game is remembered.
-const SAFE_SEEN: [u8; 8] = *b"\0\x01\0\0\x01\x01\x01\x01";
 
 // A monitor of two states over a game of two states: it goes on in every round.
 const EVEN_ODD: [u8; 4] = *b"\x01\x01\0\0";
@@ -34,13 +32,17 @@ fn solve_source<S: Source + Drop>(
     print_guided(rt, name, &bench, states)
 }
 
+// The game of a source under a monitor of m states. Two other programs have the like: a public function would need a contract and an
+// edit, and be longer.
+fn monitored<S: Source>(source: S, m: u16, turns: &[u8]) -> Monitored<S> {
+    let mut game = Monitored::new(source);
+    let _ = game.make(m, turns);
+    game
+}
+
 // The game of a record under a monitor of two states.
 fn with_two<'a>(record: &'a [u8], turns: &[u8]) -> Monitored<Table<'a>> {
-    let mut table = Table::new();
-    let _ = table.open(record);
-    let mut game = Monitored::new(table);
-    let _ = game.make(2, turns);
-    game
+    monitored(table_on(record), 2, turns)
 }
 
 // Home after safe is wanted: state 3 of H and state 1 of the monitor.
@@ -63,8 +65,7 @@ pub fn once(rt: &impl Print) -> io::Result<()> {
 
 // Home after safe is wanted, at the first state of the second monitor.
 pub fn twice(rt: &impl Print) -> io::Result<()> {
-    let mut game = Monitored::new(with_two(&HIDE, &SAFE_SEEN));
-    let _ = game.make(3, &THREE_TURNS);
+    let game = monitored(with_two(&HIDE, &SAFE_SEEN), 3, &THREE_TURNS);
     let edits = [
         Edit::Mark(24),
         Edit::Mark(21),

@@ -1,13 +1,14 @@
 // Plays, round by round.
 use crate::calls::{Edit, make_edit};
-use crate::games::{CHAIN, HIDE, ONE, solved_on};
+use crate::games::{CHAIN, solved_on};
 use crate::guided::{play_on, print_guided};
 use crate::rounds::{Round, play_round};
-use crate::show::{AtRest, Refused};
+use crate::show::AtRest;
 use bench::bench::Bench;
-use bench::play::Play;
+use bench::play::{MOST_ROUNDS, Play};
 use game::player::Player;
 use game::source::Source;
+use samples::{HIDE, ONE};
 use std::io;
 
 // On H with the target 3.
@@ -54,7 +55,7 @@ fn play_rounds<S: Source>(
 ) -> io::Result<()> {
     let mut play = match bench.begin(state) {
         Ok(play) => play,
-        Err(refusal) => return println!(rt; "{name}: begin {state}: {}", Refused(refusal)),
+        Err(refusal) => return println!(rt; "{name}: begin {state}: {refusal}"),
     };
     println!(rt; "{name}: begin {state}: {}", AtRest(&play))?;
     for round in rounds {
@@ -150,7 +151,7 @@ pub fn full(rt: &impl Print) -> io::Result<()> {
     let Ok(mut play) = one.begin(0) else {
         return Ok(());
     };
-    for _ in 1..4000 {
+    for _ in 1..MOST_ROUNDS {
         play = play_on(&one, play, 0);
     }
     println!(rt; "{name}: {}", AtRest(&play))?;

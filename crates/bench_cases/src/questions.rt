@@ -1,9 +1,10 @@
 // Questions to benches on game H, answered and refused.
 use crate::calls::{Edit, Question, ask, make_edit};
-use crate::games::{HIDE, bench_on, solved_on};
+use crate::games::{bench_on, solved_on};
 use crate::verdicts::print_tally;
 use game::mode::Mode;
 use game::player::Player;
+use samples::HIDE;
 use std::io;
 
 // Without a target no state is winning.

@@ -9,8 +9,7 @@ use std::io;
 fn settles<S: Source>(bench: &Bench<S>, open: OpenRound, reply: Reply) -> bool {
     match open.settle(bench, reply.b, reply.successor) {
         Ok(_) => true,
-        Err(back) => {
-            let (open, _) = back;
+        Err((open, _)) => {
             let _ = open.abandon();
             false
         }
@@ -19,14 +18,13 @@ fn settles<S: Source>(bench: &Bench<S>, open: OpenRound, reply: Reply) -> bool {
 
 // Whether a reply is right: it settles a round with the move of player 1, on a state that is not sure.
 fn is_right<S: Source>(bench: &Bench<S>, play: Play, a: u8, reply: Reply) -> bool {
-    let settled = match play.commit(bench, a) {
-        Ok(open) => settles(bench, open, reply),
-        Err(_) => false,
-    };
-    settled && matches!(bench.verdict(Mode::Sure, reply.successor), Ok(None))
+    play.commit(bench, a)
+        .is_ok_and(|open| settles(bench, open, reply))
+        && matches!(bench.verdict(Mode::Sure, reply.successor), Ok(None))
 }
 
 // Asks for a reply to every move at every state, and prints how many there are and how many of them are right.
+// A loop with two counts: two chains that count would ask for each reply twice.
 pub fn print_replies<S: Source>(rt: &impl Print, name: &str, bench: &Bench<S>) -> io::Result<()> {
     let mut replies = 0u16;
     let mut right = 0u16;

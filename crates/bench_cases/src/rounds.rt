@@ -1,5 +1,5 @@
 // Rounds of a play, printed.
-use crate::show::{AtRest, Refused};
+use crate::show::AtRest;
 use bench::bench::Bench;
 use bench::play::{OpenRound, Play};
 use game::source::Source;
@@ -13,20 +13,18 @@ pub struct Round(pub u8, pub &'static [(u8, u16)]);
 fn settle_or_abandon<S: Source>(
     rt: &impl Print,
     bench: &Bench<S>,
-    open: OpenRound,
+    mut open: OpenRound,
     tries: &[(u8, u16)],
 ) -> io::Result<Play> {
-    let mut open = open;
     for (b, successor) in tries {
         match open.settle(bench, *b, *successor) {
             Ok(play) => {
                 println!(rt; ", settle {b} {successor}: {}", AtRest(&play))?;
                 return Ok(play);
             }
-            Err(back) => {
-                let (again, refusal) = back;
+            Err((again, refusal)) => {
                 open = again;
-                if let Err(e) = print!(rt; ", settle {b} {successor} {}", Refused(refusal)) {
+                if let Err(e) = print!(rt; ", settle {b} {successor} {refusal}") {
                     let _ = open.abandon();
                     return Err(e);
                 }
@@ -50,9 +48,8 @@ pub fn play_round<S: Source, T: Source>(
     print!(rt; "{name}: commit {a}")?;
     match play.commit(first, *a) {
         Ok(open) => settle_or_abandon(rt, second, open, tries),
-        Err(back) => {
-            let (play, refusal) = back;
-            println!(rt; " {}: {}", Refused(refusal), AtRest(&play))?;
+        Err((play, refusal)) => {
+            println!(rt; " {refusal}: {}", AtRest(&play))?;
             Ok(play)
         }
     }

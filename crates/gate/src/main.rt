@@ -1,6 +1,6 @@
 // How a bench and a play are used: a gate controller that hides, waits and goes home.
 // States: 0 hidden, 1 safe, 2 wet, 3 home. Hidden, the controller may wait (move 0) or run (move 1), and the surroundings may look away
-// (move 0) or look (move 1).
+// (move 0) or look (move 1): wait and look away leads to 0, wait and look to 1, run and look away to 3, run and look to 2.
 #![tactic(auto)]
 
 use bench::bench::Bench;
@@ -10,13 +10,8 @@ use game::player::Player;
 use game::refusal::Refusal;
 use game::source::Source;
 use records::table::Table;
+use samples::HIDE;
 use std::io;
-
-// The record of the game: wait and look away leads to 0, wait and look to 1, run and look away to 3, run and look to 2.
-const RECORD: [u8; 44] = [
-    3, 3, 3, 1, 0, 0, 0, 1, 1, 0, 0, 0, 2, 1, 0, 0, 0, 8, 1, 0, 0, 0, 4, 1, 1, 1, 0, 0, 0, 8, 1, 1,
-    1, 0, 0, 0, 4, 1, 1, 1, 0, 0, 0, 8,
-];
 
 // The controller wants to be home, and the surroundings are not allowed to look.
 fn prepare<S: Source>(bench: &mut Bench<S>) -> Result<(), Refusal> {
@@ -26,6 +21,7 @@ fn prepare<S: Source>(bench: &mut Bench<S>) -> Result<(), Refusal> {
 
 // The lowest move of a set.
 fn lowest(moves: u8) -> u8 {
+    // at most 8, so it fits; the program `bench_cases` has the same line: a public function would need a contract and an edit
     moves.trailing_zeros() as u8
 }
 
@@ -33,18 +29,16 @@ fn lowest(moves: u8) -> u8 {
 fn settle_or_abandon<S: Source>(bench: &Bench<S>, round: OpenRound, b: u8, successor: u16) -> Play {
     match round.settle(bench, b, successor) {
         Ok(play) => play,
-        Err(back) => {
-            let (round, _) = back;
-            round.abandon()
-        }
+        Err((round, _)) => round.abandon(),
     }
 }
 
+// The number alone is printed, so not by the refusal's own text.
 fn print_refusal(rt: &HostRuntime, refusal: Refusal) -> io::Result<()> {
-    let number = refusal.number();
-    println!(rt; "refused {number}")
+    println!(rt; "refused {}", refusal.number())
 }
 
+// Three programs print a play, each in other words.
 fn print_play(rt: &HostRuntime, play: &Play) -> io::Result<()> {
     let state = play.state();
     let rounds = play.rounds();
@@ -56,7 +50,7 @@ fn print_play(rt: &HostRuntime, play: &Play) -> io::Result<()> {
 fn print_round<S: Source>(rt: &HostRuntime, bench: &Bench<S>, play: Play, a: u8) -> io::Result<()> {
     match play.commit(bench, a) {
         Ok(round) => print_play(rt, &settle_or_abandon(bench, round, 0, 3)),
-        Err(back) => print_play(rt, &back.0),
+        Err((play, _)) => print_play(rt, &play),
     }
 }
 
@@ -73,11 +67,7 @@ fn run<S: Source>(rt: &HostRuntime, bench: &mut Bench<S>) -> io::Result<()> {
     if let Err(refusal) = prepare(bench) {
         return print_refusal(rt, refusal);
     }
-    let tally = bench.solve();
-    let sure = tally.sure;
-    let almost = tally.almost;
-    let rounds = tally.rounds;
-    println!(rt; "sure {sure} almost {almost} rounds {rounds}")?;
+    println!(rt; "{}", bench.solve())?;
     match bench.begin(0) {
         Ok(play) => print_plays(rt, bench, play),
         Err(refusal) => print_refusal(rt, refusal),
@@ -86,7 +76,7 @@ fn run<S: Source>(rt: &HostRuntime, bench: &mut Bench<S>) -> io::Result<()> {
 
 fn main(rt: HostRuntime) -> io::Result<()> {
     let mut table = Table::new();
-    match table.open(&RECORD) {
+    match table.open(&HIDE) {
         Ok(()) => {
             let mut bench = Bench::open(table);
             run(&rt, &mut bench)

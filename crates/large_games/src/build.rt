@@ -1,4 +1,5 @@
-// Building blocks of records.
+// Building blocks of records. The program `record_cases` has the same steps: as public functions of a library they would need contracts
+// and edits, and be longer than both.
 use std::alloc::{AllocError, Global};
 
 // The bytes of a record, as far as they are built.
@@ -19,8 +20,8 @@ fn groups_of(states: &[u8]) -> [u8; 32] {
 // The group map of a set.
 fn map_of(groups: &[u8; 32]) -> [u8; 4] {
     let mut map = [0; 4];
-    for g in 0..32usize {
-        if groups[g] > 0 {
+    for (g, byte) in groups.iter().enumerate() {
+        if *byte > 0 {
             map[g / 8] |= 1 << (g % 8);
         }
     }
@@ -47,12 +48,7 @@ impl Record {
     pub fn put_support(&mut self, states: &[u8]) -> Result<(), AllocError> {
         let groups = groups_of(states);
         self.bytes.extend_from_slice(&map_of(&groups))?;
-        for byte in groups {
-            if byte > 0 {
-                self.bytes.push(byte)?;
-            }
-        }
-        Ok(())
+        self.bytes.extend(groups.iter().filter(|byte| **byte > 0))
     }
 
     pub fn as_slice(&self) -> &[u8] {

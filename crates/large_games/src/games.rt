@@ -2,6 +2,8 @@
 use crate::build::Record;
 use crate::wide::wide;
 use std::alloc::{AllocError, Global};
+use std::fmt;
+use std::str::FromStr;
 
 // Which game is run.
 #[derive(Clone, Copy)]
@@ -11,24 +13,34 @@ pub enum Large {
     Wide,
 }
 
-impl Large {
-    pub fn named(name: &str) -> Option<Large> {
+// No game has the name.
+#[derive(Clone, Copy)]
+pub struct NoGame;
+
+impl FromStr for Large {
+    type Err = NoGame;
+
+    fn from_str(name: &str) -> Result<Large, NoGame> {
         match name {
-            "chain" => Some(Large::Chain),
-            "rounds" => Some(Large::Rounds),
-            "wide" => Some(Large::Wide),
-            _ => None,
+            "chain" => Ok(Large::Chain),
+            "rounds" => Ok(Large::Rounds),
+            "wide" => Ok(Large::Wide),
+            _ => Err(NoGame),
         }
     }
+}
 
-    pub fn name(&self) -> &'static str {
-        match self {
+impl fmt::Display for Large {
+    fn fmt<W: fmt::Write>(&self, f: &mut fmt::Formatter<W>) -> fmt::Result {
+        f.write_str(match self {
             Large::Chain => "chain",
             Large::Rounds => "rounds",
             Large::Wide => "wide",
-        }
+        })
     }
+}
 
+impl Large {
     pub fn record(&self, heap: Global) -> Result<Record, AllocError> {
         match self {
             Large::Chain => chain(heap),

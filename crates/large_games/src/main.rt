@@ -2,7 +2,7 @@
 // The arguments name the games to run, in order; without any, all of them are run.
 #![tactic(auto)]
 
-use games::Large;
+use games::{Large, NoGame};
 use report::print_game;
 use std::alloc::Global;
 use std::env;
@@ -13,25 +13,22 @@ mod report;
 mod wide;
 
 fn print_named(rt: &HostRuntime, name: &str) -> anyhow::Result<()> {
-    match Large::named(name) {
-        Some(large) => print_game(rt, large),
-        None => {
-            println!(rt; "no game {name}")?;
-            Ok(())
-        }
+    match name.parse() {
+        Ok(large) => print_game(rt, large)?,
+        Err(NoGame) => println!(rt; "no game {name}")?,
     }
+    Ok(())
 }
 
 fn run(rt: &HostRuntime) -> anyhow::Result<()> {
-    let mut named = false;
-    for name in env::args(rt)?.skip(1) {
-        print_named(rt, name.as_str())?;
-        named = true;
-    }
-    if !named {
+    let mut names = env::args(rt)?.skip(1).peekable();
+    if names.peek().is_none() {
         for large in [Large::Chain, Large::Rounds, Large::Wide] {
             print_game(rt, large)?;
         }
+    }
+    for name in names {
+        print_named(rt, name.as_str())?;
     }
     Ok(())
 }

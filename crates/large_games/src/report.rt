@@ -72,40 +72,35 @@ fn solve<S: Source + Drop>(source: S) -> Result<Solved, Refusal> {
     })
 }
 
-fn print_solved(rt: &HostRuntime, name: &str, solved: Solved) -> io::Result<()> {
-    let Tally {
-        sure,
-        almost,
-        rounds,
-    } = solved.tally;
-    println!(rt; "{name}: sure {sure} almost {almost} rounds {rounds}")?;
-    println!(rt; "{name}: mode sure {}", solved.sure)?;
-    println!(rt; "{name}: mode almost {}", solved.almost)
+fn print_solved(rt: &HostRuntime, large: Large, solved: Solved) -> io::Result<()> {
+    println!(rt; "{large}: {}", solved.tally)?;
+    println!(rt; "{large}: mode sure {}", solved.sure)?;
+    println!(rt; "{large}: mode almost {}", solved.almost)
 }
 
-fn print_refusal(rt: &HostRuntime, name: &str, refusal: Refusal) -> io::Result<()> {
-    let number = refusal.number();
-    println!(rt; "{name}: refused {number}")
+// The number alone is printed, so not by the refusal's own text.
+fn print_refusal(rt: &HostRuntime, large: Large, refusal: Refusal) -> io::Result<()> {
+    println!(rt; "{large}: refused {}", refusal.number())
 }
 
-fn print_table(rt: &HostRuntime, name: &str, bytes: &[u8]) -> io::Result<()> {
+fn print_table(rt: &HostRuntime, large: Large, bytes: &[u8]) -> io::Result<()> {
     let mut table = Table::new();
     if let Err(refusal) = table.open(bytes) {
-        return print_refusal(rt, name, refusal);
+        return print_refusal(rt, large, refusal);
     }
     let length = bytes.len();
     let states = table.states();
     let supports = count_supports(&table);
-    println!(rt; "{name}: bytes {length} states {states} supports {supports}")?;
+    println!(rt; "{large}: bytes {length} states {states} supports {supports}")?;
     match solve(table) {
-        Ok(solved) => print_solved(rt, name, solved),
-        Err(refusal) => print_refusal(rt, name, refusal),
+        Ok(solved) => print_solved(rt, large, solved),
+        Err(refusal) => print_refusal(rt, large, refusal),
     }
 }
 
 // Builds a game, opens and solves it, and prints what came of it.
 pub fn print_game(rt: &HostRuntime, large: Large) -> anyhow::Result<()> {
     let record = large.record(rt.alloc())?;
-    print_table(rt, large.name(), record.as_slice())?;
+    print_table(rt, large, record.as_slice())?;
     Ok(())
 }

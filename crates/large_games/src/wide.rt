@@ -81,12 +81,12 @@ fn move_counts(p: u16) -> (u8, u8) {
     }
 }
 
-// The state in a place.
+// The state in a place. A remainder below 162 fits.
 fn state_in(p: u16) -> u8 {
     (11 * u32::from(p) % u32::from(PLACES)) as u8
 }
 
-// The place of a state: 59 × 11 is 1 modulo 162.
+// The place of a state: 59 × 11 is 1 modulo 162. A remainder below 162 fits.
 fn place_of(state: u16) -> u16 {
     (59 * u32::from(state) % u32::from(PLACES)) as u16
 }

@@ -97,4 +97,4 @@ const PLAYS: [PlayCase; 6] = [
     PlayCase("no place", 7, &PAST_HOME, 4, None),
 ];
 
-pub const LISTS: [ListCase; 1] = [ListCase(&CALLS, 38, 0, &PLAYS)];
+pub const LISTS: [ListCase; 1] = [ListCase(&CALLS, 38, None, &PLAYS)];

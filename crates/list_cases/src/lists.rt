@@ -1,28 +1,19 @@
 // A list of calls on a new bench: handing it over, and printing what came of it.
+use crate::places::{UNTOUCHED, count_untouched};
 use crate::plays::{PlayCase, run_plays};
-use crate::show::{Reason, ShownAnswer, ShownCall, print_line};
+use crate::show::{ShownAnswer, ShownCall, print_line};
 use game::refusal::Refusal;
 use game::source::Source;
 use runs::bench_calls::make_calls;
 use runs::call::{Answer, Call};
 use std::io;
 
-// What stands in each place beforehand: no call by itself is answered so.
-const UNTOUCHED: Answer = Answer::Refused(Refusal::ShortBuffer);
-
-// How many places nothing was written to.
-fn count_untouched(answers: &[Answer]) -> usize {
-    let mut untouched = 0usize;
-    for answer in answers {
-        if let Answer::Refused(Refusal::ShortBuffer) = answer {
-            untouched = untouched.saturating_add(1);
-        }
-    }
-    untouched
-}
-
 // Prints each call with its answer.
-fn print_calls(rt: &HostRuntime, calls: &[Call], answers: &[Answer]) -> io::Result<()> {
+fn print_calls(
+    rt: &HostRuntime,
+    calls: &[Call],
+    answers: &[Result<Answer, Refusal>],
+) -> io::Result<()> {
     for (i, (call, answer)) in calls.iter().zip(answers.iter()).enumerate() {
         print_line(rt, i, &ShownCall(*call), &ShownAnswer(*answer))?;
     }
@@ -30,9 +21,14 @@ fn print_calls(rt: &HostRuntime, calls: &[Call], answers: &[Answer]) -> io::Resu
 }
 
 // A list of calls: the calls, the number of places for their answers, the number of places where the list is handed over again
-// since the first were too few, and the plays that are run on the bench that comes back.
+// if the first were too few, and the plays that are run on the bench that comes back.
 #[derive(Clone, Copy)]
-pub struct ListCase<'a>(pub &'a [Call], pub usize, pub usize, pub &'a [PlayCase<'a>]);
+pub struct ListCase<'a>(
+    pub &'a [Call],
+    pub usize,
+    pub Option<usize>,
+    pub &'a [PlayCase<'a>],
+);
 
 // Hands a list over with so many places for answers, prints it, and then runs plays on the bench that comes back. Where there are
 // too few places, the source that comes back is passed on.
@@ -44,7 +40,7 @@ pub fn hand_over<S: Source + Drop>(
     places: usize,
     plays: &[PlayCase],
 ) -> io::Result<Option<S>> {
-    let mut answers = vec![in rt.alloc(); UNTOUCHED; places]?;
+    let mut answers = vec![in rt.alloc(); Err(UNTOUCHED); places]?;
     let result = make_calls(source, calls, answers.as_mut_slice());
     let number = calls.len();
     let untouched = count_untouched(answers.as_slice());
@@ -55,15 +51,14 @@ pub fn hand_over<S: Source + Drop>(
             run_plays(rt, name, &bench, plays)?;
             Ok(None)
         }
-        Err(back) => {
-            let (source, refusal) = back;
-            println!(rt; "{}", Reason(refusal))?;
+        Err((source, refusal)) => {
+            println!(rt; "{refusal}")?;
             Ok(Some(source))
         }
     }
 }
 
-// Hands a list over, and again on the source that was given back, if there were too few places.
+// Hands a list over, and if there were too few places, again on the source that was given back, where the case says so.
 pub fn run_list<S: Source + Drop>(
     rt: &HostRuntime,
     name: &str,
@@ -71,7 +66,8 @@ pub fn run_list<S: Source + Drop>(
     case: &ListCase,
 ) -> io::Result<()> {
     let ListCase(calls, places, more, plays) = *case;
-    if let Some(source) = hand_over(rt, name, source, calls, places, plays)? {
+    let back = hand_over(rt, name, source, calls, places, plays)?;
+    if let (Some(source), Some(more)) = (back, more) {
         hand_over(rt, name, source, calls, more, plays)?;
     }
     Ok(())

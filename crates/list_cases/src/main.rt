@@ -3,30 +3,24 @@
 #![tactic(auto)]
 
 use crate::lists::{ListCase, run_list};
-use crate::show::Reason;
 use monitor::Monitored;
 use records::table::Table;
+use samples::HIDE;
 use std::io;
 
 mod even;
 mod full;
 mod lists;
+mod places;
 mod plays;
 mod room;
 mod show;
 mod week;
 
-// Game H: 0 hide, 1 safe, 2 wet, 3 home.
-const HIDE: [u8; 44] = *b"\x03\
-    \x03\x03\x01\0\0\0\x01\x01\0\0\0\x02\x01\0\0\0\x08\x01\0\0\0\x04\
-    \x01\x01\x01\0\0\0\x08\
-    \x01\x01\x01\0\0\0\x04\
-    \x01\x01\x01\0\0\0\x08";
-
 // A monitor of two states that goes to the other one in every round, so that it tells even rounds from odd ones.
 const TURNS: [u8; 8] = [1, 1, 1, 1, 0, 0, 0, 0];
 
-// A game under the monitor.
+// A game under the monitor. Two other programs have the like, of any monitor.
 fn monitored(table: Table<'_>) -> Monitored<Table<'_>> {
     let mut game = Monitored::new(table);
     let _ = game.make(2, &TURNS);
@@ -52,7 +46,7 @@ fn on_monitored(rt: &HostRuntime, table: Table, cases: &[ListCase]) -> io::Resul
 fn main(rt: HostRuntime) -> io::Result<()> {
     let mut table = Table::new();
     if let Err(refusal) = table.open(&HIDE) {
-        return println!(rt; "H: {}", Reason(refusal));
+        return println!(rt; "H: {refusal}");
     }
     on_table(&rt, table, &week::ON_HIDE)?;
     on_table(&rt, table, &room::LISTS)?;

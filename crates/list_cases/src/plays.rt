@@ -1,10 +1,11 @@
 // A list of calls of one play: handing it over, closing the round that it leaves open, and printing what came of it.
-use crate::show::{Reason, ShownPlayAnswer, ShownPlayCall, print_line};
+use crate::places::{UNTOUCHED, count_untouched};
+use crate::show::{ShownPlayAnswer, ShownPlayCall, print_line};
 use bench::bench::Bench;
 use bench::play::{OpenRound, Play};
 use game::refusal::Refusal;
 use game::source::Source;
-use runs::play_call::{PlayAnswer, PlayCall, Stage};
+use runs::play_call::{PlayCall, Stage};
 use runs::play_calls::{Played, make_play_calls};
 use std::{fmt, io};
 
@@ -30,10 +31,7 @@ impl fmt::Display for PlayCase<'_> {
 // Of a longer list only so many calls are printed, the last ones.
 const MOST_SHOWN: usize = 16;
 
-// What stands in each place beforehand: no call by itself is answered so.
-const UNTOUCHED: PlayAnswer = PlayAnswer::Refused(Refusal::ShortBuffer);
-
-// What became of the round that a list left open.
+// What became of the round that a list left open. `Option<Option<Result<(), Refusal>>>` would say less.
 #[derive(Clone, Copy)]
 enum Closing {
     NoRound,
@@ -49,40 +47,24 @@ impl fmt::Display for Closing {
             Closing::NoRound => f.write_str("at rest"),
             Closing::Abandoned => f.write_str("a round open, abandoned"),
             Closing::Settled => f.write_str("a round open, settled"),
-            Closing::Refused(refusal) => {
-                let reason = Reason(refusal);
-                write!(f, "a round open, settle {reason}, abandoned")
-            }
+            Closing::Refused(refusal) => write!(f, "a round open, settle {refusal}, abandoned"),
         }
     }
 }
 
 // How a play stands once no round of it is open.
-#[derive(Clone, Copy)]
+#[derive(Drop)]
 struct Ending {
     closing: Closing,
-    state: u16,
-    rounds: u16,
-    met: bool,
-}
-
-impl Ending {
-    fn of(closing: Closing, play: &Play) -> Ending {
-        Ending {
-            closing,
-            state: play.state(),
-            rounds: play.rounds(),
-            met: play.met(),
-        }
-    }
+    play: Play,
 }
 
 impl fmt::Display for Ending {
     fn fmt<W: fmt::Write>(&self, f: &mut fmt::Formatter<W>) -> fmt::Result {
         let closing = self.closing;
-        let state = self.state;
-        let rounds = self.rounds;
-        let met = if self.met { "met" } else { "not met" };
+        let state = self.play.state();
+        let rounds = self.play.rounds();
+        let met = if self.play.met() { "met" } else { "not met" };
         write!(f, "{closing}: state {state}, rounds {rounds}, target {met}")
     }
 }
@@ -90,38 +72,41 @@ impl fmt::Display for Ending {
 // Settles an open round, or abandons it.
 fn close_round<S: Source>(bench: &Bench<S>, round: OpenRound, settle: Option<(u8, u16)>) -> Ending {
     let Some((b, successor)) = settle else {
-        return Ending::of(Closing::Abandoned, &round.abandon());
+        return Ending {
+            closing: Closing::Abandoned,
+            play: round.abandon(),
+        };
     };
     match round.settle(bench, b, successor) {
-        Ok(play) => Ending::of(Closing::Settled, &play),
-        Err(back) => {
-            let (round, refusal) = back;
-            Ending::of(Closing::Refused(refusal), &round.abandon())
-        }
+        Ok(play) => Ending {
+            closing: Closing::Settled,
+            play,
+        },
+        Err((round, refusal)) => Ending {
+            closing: Closing::Refused(refusal),
+            play: round.abandon(),
+        },
     }
 }
 
 // How a play ends, once its open round is closed.
 fn close<S: Source>(bench: &Bench<S>, stage: Stage, settle: Option<(u8, u16)>) -> Ending {
     match stage {
-        Stage::Rest(play) => Ending::of(Closing::NoRound, &play),
+        Stage::Rest(play) => Ending {
+            closing: Closing::NoRound,
+            play,
+        },
         Stage::Round(round) => close_round(bench, round, settle),
     }
 }
 
-// How many places nothing was written to.
-fn count_untouched(answers: &[PlayAnswer]) -> usize {
-    let mut untouched = 0usize;
-    for answer in answers {
-        if let PlayAnswer::Refused(Refusal::ShortBuffer) = answer {
-            untouched = untouched.saturating_add(1);
-        }
-    }
-    untouched
-}
-
 // Prints each call with what stands at its place.
-fn print_calls(rt: &HostRuntime, calls: &[PlayCall], answers: &[PlayAnswer]) -> io::Result<()> {
+// The module `lists` has a loop like it: over calls of both types one would be longer, by the bounds of its iterator.
+fn print_calls(
+    rt: &HostRuntime,
+    calls: &[PlayCall],
+    answers: &[Result<(), Refusal>],
+) -> io::Result<()> {
     let first = calls.len().saturating_sub(MOST_SHOWN);
     let pairs = calls.iter().zip(answers.iter());
     for (i, (call, answer)) in pairs.enumerate().skip(first) {
@@ -131,7 +116,7 @@ fn print_calls(rt: &HostRuntime, calls: &[PlayCall], answers: &[PlayAnswer]) -> 
 }
 
 // How many calls of a list were made, and how the play ended.
-#[derive(Clone, Copy)]
+#[derive(Drop)]
 struct Finished {
     made: usize,
     ending: Ending,
@@ -141,7 +126,7 @@ struct Finished {
 fn finish<S: Source>(
     bench: &Bench<S>,
     case: &PlayCase,
-    answers: &mut [PlayAnswer],
+    answers: &mut [Result<(), Refusal>],
 ) -> Result<Finished, Refusal> {
     let PlayCase(_, from, calls, _, settle) = *case;
     let Played { stage, made } = make_play_calls(bench, from, calls, answers)?;
@@ -156,16 +141,17 @@ fn run_play<S: Source>(
     bench: &Bench<S>,
     case: &PlayCase,
 ) -> io::Result<()> {
-    let mut answers = vec![in rt.alloc(); UNTOUCHED; case.3]?;
+    let PlayCase(_, _, calls, places, _) = *case;
+    let mut answers = vec![in rt.alloc(); Err(UNTOUCHED); places]?;
     let result = finish(bench, case, answers.as_mut_slice());
     let untouched = count_untouched(answers.as_slice());
     println!(rt; "{name}, {case}, untouched {untouched}")?;
     match result {
         Ok(Finished { made, ending }) => {
-            print_calls(rt, case.2, answers.as_slice())?;
+            print_calls(rt, calls, answers.as_slice())?;
             println!(rt; "made {made}, {ending}")
         }
-        Err(refusal) => println!(rt; "{}", Reason(refusal)),
+        Err(refusal) => println!(rt; "{refusal}"),
     }
 }
 

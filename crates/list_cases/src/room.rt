@@ -28,8 +28,8 @@ const NO_SOLVE: [PlayCase; 1] = [PlayCase("no solve", 0, &[], 0, None)];
 
 // A place too few and then just enough, no place and then more than are needed, and no calls.
 pub const LISTS: [ListCase; 4] = [
-    ListCase(&CALLS, 4, 5, &UNSOLVED),
-    ListCase(&CALLS, 0, 8, &UNSOLVED),
-    ListCase(&[], 0, 0, &NO_SOLVE),
-    ListCase(&[], 3, 0, &NO_SOLVE),
+    ListCase(&CALLS, 4, Some(5), &UNSOLVED),
+    ListCase(&CALLS, 0, Some(8), &UNSOLVED),
+    ListCase(&[], 0, None, &NO_SOLVE),
+    ListCase(&[], 3, None, &NO_SOLVE),
 ];

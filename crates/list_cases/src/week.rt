@@ -161,6 +161,6 @@ const MONITORED_PLAYS: [PlayCase; 1] = [PlayCase(
 )];
 
 // The week on game H, and the same week on H under the monitor.
-pub const ON_HIDE: [ListCase; 1] = [ListCase(&WEEK, 60, 0, &PLAYS)];
+pub const ON_HIDE: [ListCase; 1] = [ListCase(&WEEK, 60, None, &PLAYS)];
 
-pub const ON_MONITORED: [ListCase; 1] = [ListCase(&WEEK, 60, 0, &MONITORED_PLAYS)];
+pub const ON_MONITORED: [ListCase; 1] = [ListCase(&WEEK, 60, None, &MONITORED_PLAYS)];

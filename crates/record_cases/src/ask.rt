@@ -1,4 +1,5 @@
 // Questions to sources.
+// Label and source are no struct: a source is printed under several labels, and some calls take two sources.
 use game::player::Player;
 use game::source::Source;
 use std::io;

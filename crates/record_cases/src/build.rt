@@ -1,4 +1,6 @@
 // Building blocks of records and of tables. A set of states is given by 32 bytes: bit i of byte g stands for state 8 g + i.
+// The program `large_games` builds its records by the same steps: as public functions of a library they would need contracts and edits,
+// and be longer than both.
 use std::alloc::{AllocError, Global};
 
 // The set of some states.
@@ -18,8 +20,8 @@ pub fn all() -> [u8; 32] {
 // The group map of a set.
 fn map_of(groups: &[u8; 32]) -> [u8; 4] {
     let mut map = [0; 4];
-    for g in 0..32usize {
-        if groups[g] > 0 {
+    for (g, byte) in groups.iter().enumerate() {
+        if *byte > 0 {
             map[g / 8] |= 1 << (g % 8);
         }
     }
@@ -36,12 +38,7 @@ pub fn put_moves(record: &mut Vec<u8>, first: u8, second: u8) -> Result<(), Allo
 // Puts a set behind a record.
 pub fn put_set(record: &mut Vec<u8>, groups: &[u8; 32]) -> Result<(), AllocError> {
     record.extend_from_slice(&map_of(groups))?;
-    for byte in groups {
-        if *byte > 0 {
-            record.push(*byte)?;
-        }
-    }
-    Ok(())
+    record.extend(groups.iter().filter(|byte| **byte > 0))
 }
 
 // The bytes cut to a length, or filled up with 0, and then some of them changed.
@@ -67,6 +64,7 @@ pub fn turning(heap: Global, n: u16, m: u8) -> Result<Vec<u8>, AllocError> {
     for q in 0..m {
         for t in 0..n {
             let sum = u32::from(q) + u32::from(t);
+            // a remainder below m fits
             table.push((sum % u32::from(m)) as u8)?;
         }
     }

@@ -6,50 +6,24 @@ use std::io;
 // Whether two sources answer alike on the support of two moves, up to one member past its size.
 fn same_support<A: Source, B: Source>(x: &A, y: &B, state: u16, a: u8, b: u8) -> bool {
     let size = x.support_size(state, a, b);
-    if y.support_size(state, a, b) != size {
-        return false;
-    }
-    for k in 0..=size {
-        if x.member(state, a, b, k) != y.member(state, a, b, k) {
-            return false;
-        }
-    }
-    true
+    y.support_size(state, a, b) == size
+        && (0..=size).all(|k| x.member(state, a, b, k) == y.member(state, a, b, k))
 }
 
 // Whether two sources answer alike at a state, with moves inside and outside the game.
 fn same_row<A: Source, B: Source>(x: &A, y: &B, state: u16) -> bool {
-    if x.moves(Player::One, state) != y.moves(Player::One, state) {
-        return false;
-    }
-    if x.moves(Player::Two, state) != y.moves(Player::Two, state) {
-        return false;
-    }
-    for a in 0..9 {
-        for b in 0..9 {
-            if !same_support(x, y, state, a, b) {
-                return false;
-            }
-        }
-    }
-    true
+    x.moves(Player::One, state) == y.moves(Player::One, state)
+        && x.moves(Player::Two, state) == y.moves(Player::Two, state)
+        && (0..9).all(|a| (0..9).all(|b| same_support(x, y, state, a, b)))
 }
 
 // Whether two sources answer every question alike, at all states and at two outside.
 pub fn same<A: Source, B: Source>(x: &A, y: &B) -> bool {
     let states = x.states();
-    if y.states() != states {
-        return false;
-    }
-    for state in 0..=states {
-        if !same_row(x, y, state) {
-            return false;
-        }
-    }
-    same_row(x, y, 65535)
+    y.states() == states && (0..=states).all(|state| same_row(x, y, state)) && same_row(x, y, 65535)
 }
 
-// How it is printed whether two sources answer alike.
+// How it is printed whether two sources answer alike: a type with `Display` would be longer, here and below.
 pub fn alike(yes: bool) -> &'static str {
     if yes { "alike" } else { "differ" }
 }
@@ -69,11 +43,9 @@ fn mixed(digest: u32, answer: u16) -> u32 {
 // A digest with all answers on the support of two moves, up to one member past its size.
 fn mix_support<S: Source>(digest: u32, source: &S, state: u16, a: u8, b: u8) -> u32 {
     let size = source.support_size(state, a, b);
-    let mut digest = mixed(digest, size);
-    for k in 0..=size {
-        digest = mixed(digest, source.member(state, a, b, k));
-    }
-    digest
+    (0..=size).fold(mixed(digest, size), |digest, k| {
+        mixed(digest, source.member(state, a, b, k))
+    })
 }
 
 // A digest with all answers at a state.
@@ -101,9 +73,7 @@ pub fn print_digest<S: Source>(rt: &impl Print, label: &str, source: &S) -> io::
 
 // A digest of bytes.
 pub fn bytes_digest(bytes: &[u8]) -> u32 {
-    let mut digest = 0;
-    for byte in bytes {
-        digest = mixed(digest, u16::from(*byte));
-    }
-    digest
+    bytes
+        .iter()
+        .fold(0, |digest, byte| mixed(digest, u16::from(*byte)))
 }

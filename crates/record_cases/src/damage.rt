@@ -1,7 +1,7 @@
 // Faults in the record of game H.
 use crate::build::edited;
-use crate::games::{HIDE, ONE};
 use crate::open::{Case, open, open_all};
+use samples::{HIDE, ONE};
 use std::io;
 
 // One fault.

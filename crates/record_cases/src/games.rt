@@ -2,16 +2,6 @@
 use crate::build::{all, members, put_moves, put_set};
 use std::alloc::{AllocError, Global};
 
-// One state, and move 0 for both players.
-pub const ONE: [u8; 8] = [0, 1, 1, 1, 0, 0, 0, 1];
-
-// Game H: 0 hide, 1 safe, 2 wet, 3 home. The rows begin at the places 1, 23, 30 and 37.
-pub const HIDE: [u8; 44] = *b"\x03\
-    \x03\x03\x01\0\0\0\x01\x01\0\0\0\x02\x01\0\0\0\x08\x01\0\0\0\x04\
-    \x01\x01\x01\0\0\0\x08\
-    \x01\x01\x01\0\0\0\x04\
-    \x01\x01\x01\0\0\0\x08";
-
 // The states 0 to `last` in a ring: each leads to the next, and the last to 0.
 pub fn ring(heap: Global, last: u8) -> Result<Vec<u8>, AllocError> {
     let mut record = Vec::from_slice(heap, &[last])?;
@@ -51,10 +41,9 @@ pub fn wide(heap: Global) -> Result<Vec<u8>, AllocError> {
 // 8 g + (from + g) % 8.
 fn spread(from: u16, more: bool) -> [u8; 32] {
     let mut groups = [0; 32];
-    for g in 0..26 {
-        if g < 25 || more {
-            groups[g] = 1 << ((usize::from(from) + g) % 8);
-        }
+    let count = if more { 26 } else { 25 };
+    for (g, group) in groups.iter_mut().enumerate().take(count) {
+        *group = 1 << ((usize::from(from) + g) % 8);
     }
     groups
 }
@@ -75,9 +64,7 @@ pub fn limit(heap: Global, longer: u16) -> Result<Vec<u8>, AllocError> {
 // The states 0 to 24, and 25 if there is to be one more.
 fn crowded(more: bool) -> [u8; 32] {
     let mut groups = [0; 32];
-    groups[0] = 255;
-    groups[1] = 255;
-    groups[2] = 255;
+    groups[..3].fill(255);
     groups[3] = if more { 3 } else { 1 };
     groups
 }

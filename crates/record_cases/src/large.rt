@@ -2,9 +2,9 @@
 use crate::ask::ask_all;
 use crate::build::edited;
 use crate::compare::{bytes_digest, print_digest};
-use crate::games::{HIDE, ONE, limit, wide};
-use crate::open::{Case, open, open_all};
-use records::table::Table;
+use crate::games::{limit, wide};
+use crate::open::{Case, open, open_all, table_on};
+use samples::{HIDE, ONE};
 use std::io;
 
 // The last row of the limit game begins at place 59,766.
@@ -101,8 +101,7 @@ pub fn lengths(rt: &HostRuntime) -> io::Result<()> {
 
 // Asks about the limit game.
 fn ask_limit(rt: &impl Print, record: &[u8]) -> io::Result<()> {
-    let mut table = Table::new();
-    let _ = table.open(record);
+    let table = table_on(record);
     print_digest(rt, "limit game", &table)?;
     ask_all(rt, "limit game", &table, &LIMIT_QUESTIONS)
 }
@@ -119,8 +118,7 @@ pub fn limit_game(rt: &HostRuntime) -> io::Result<()> {
 
 // Asks about the wide game.
 fn ask_wide(rt: &impl Print, record: &[u8]) -> io::Result<()> {
-    let mut table = Table::new();
-    let _ = table.open(record);
+    let table = table_on(record);
     print_digest(rt, "wide game", &table)?;
     ask_all(rt, "wide game", &table, &WIDE_MEMBERS)?;
     ask_all(rt, "wide game", &table, &WIDE_QUESTIONS)

@@ -3,7 +3,7 @@ use crate::ask::ask_all;
 use crate::build::{edited, turning};
 use crate::compare::{alike, kept, print_digest, same};
 use crate::games::ring;
-use crate::show::Outcome;
+use crate::open::{monitored, table_on};
 use game::source::Source;
 use monitor::Monitored;
 use records::table::Table;
@@ -62,13 +62,16 @@ pub fn make<S: Source, B: Source>(
     before: &B,
     (m, table): (u16, &[u8]),
 ) -> io::Result<()> {
-    let outcome = Outcome::of(game.make(m, table));
-    if outcome.is_ok() {
-        let states = game.states();
-        return println!(rt; "{label}: {outcome}; states {states}");
+    match game.make(m, table) {
+        Ok(()) => {
+            let states = game.states();
+            println!(rt; "{label}: ok; states {states}")
+        }
+        Err(refusal) => {
+            let after = kept(same(game, before));
+            println!(rt; "{label}: {refusal}; {after}")
+        }
     }
-    let kept = kept(same(game, before));
-    println!(rt; "{label}: {outcome}; {kept}")
 }
 
 // Makes each monitor that is refused.
@@ -97,7 +100,7 @@ fn start<S: Source>(
     print!(rt; "{label}, start {state}: ")?;
     match game.start(state) {
         Ok(first) => println!(rt; "{first}"),
-        Err(refusal) => println!(rt; "{}", Outcome(Some(refusal))),
+        Err(refusal) => println!(rt; "{refusal}"),
     }
 }
 
@@ -116,8 +119,7 @@ fn start_all<S: Source>(
 
 // The ring of 85, as it is and under a monitor of three states.
 fn ring_of_85(rt: &HostRuntime, record: &[u8], turns: &[u8]) -> io::Result<()> {
-    let mut table = Table::new();
-    let _ = table.open(record);
+    let table = table_on(record);
     let mut game = Monitored::new(table);
     println!(rt; "ring of 85, new: {}", alike(same(&game, &table)))?;
     start_all(rt, "ring of 85, new", &game, &[0, 84, 85, 65535])?;
@@ -129,8 +131,7 @@ fn ring_of_85(rt: &HostRuntime, record: &[u8], turns: &[u8]) -> io::Result<()> {
         &table,
         (3, turns),
     )?;
-    let mut before = Monitored::new(table);
-    let _ = before.make(3, turns);
+    let before = monitored(table, 3, turns);
     refused(rt, "made", &mut game, &before, turns)?;
     print_digest(rt, "ring of 85 monitored", &game)?;
     start_all(
@@ -150,8 +151,7 @@ pub fn ring_85(rt: &HostRuntime) -> io::Result<()> {
 
 // Makes a monitor of m states over a ring.
 fn over(rt: &impl Print, label: &str, record: &[u8], m: u16, turns: &[u8]) -> io::Result<()> {
-    let mut table = Table::new();
-    let _ = table.open(record);
+    let table = table_on(record);
     let mut game = Monitored::new(table);
     make(rt, label, &mut game, &table, (m, turns))
 }

@@ -2,17 +2,15 @@
 use crate::ask::{ask_all, print_rows};
 use crate::build::turning;
 use crate::compare::{alike, print_digest, same};
-use crate::games::{HIDE, crowd, ring};
+use crate::games::{crowd, ring};
 use crate::monitors::make;
+use crate::open::{monitored, table_on};
 use crate::show::Outcome;
 use crate::writing::put_and_open;
 use game::source::Source;
 use monitor::Monitored;
-use records::table::Table;
+use samples::{HIDE, SAFE_SEEN};
 use std::io;
-
-// A monitor of two states over game H: state 1 of the game is remembered.
-const SAFE_SEEN: [u8; 8] = [0, 1, 0, 0, 1, 1, 1, 1];
 
 const QUESTIONS: [(u16, u8, u8, u16); 9] = [
     (0, 0, 1, 0),
@@ -28,8 +26,7 @@ const QUESTIONS: [(u16, u8, u8, u16); 9] = [
 
 // Monitors of two, three and one states over game H, one in the place of another.
 fn hide_monitored(rt: &impl Print, turns: &[u8]) -> io::Result<()> {
-    let mut table = Table::new();
-    let _ = table.open(&HIDE);
+    let table = table_on(&HIDE);
     let mut game = Monitored::new(table);
     make(
         rt,
@@ -43,9 +40,9 @@ fn hide_monitored(rt: &impl Print, turns: &[u8]) -> io::Result<()> {
     ask_all(rt, "H with 2", &game, &QUESTIONS)?;
     make(rt, "then 3 monitor states", &mut game, &table, (3, turns))?;
     print_rows(rt, "H with 3", &game)?;
-    let told = Outcome::of(game.make(3, &[0; 24]));
+    let outcome = Outcome(game.make(3, &[0; 24]));
     println!(rt;
-        "then a table for 8 states: {told}; states {}",
+        "then a table for 8 states: {outcome}; states {}",
         game.states()
     )?;
     make(rt, "then 1 monitor state", &mut game, &table, (1, &[0; 4]))?;
@@ -63,17 +60,12 @@ fn twice(
     rt: &HostRuntime,
     label: &str,
     record: &[u8],
-    (m, l): (u16, u16),
-    first: &[u8],
-    second: &[u8],
+    (m, first): (u16, &[u8]),
+    (l, second): (u16, &[u8]),
 ) -> io::Result<()> {
-    let mut table = Table::new();
-    let _ = table.open(record);
-    let mut inner = Monitored::new(table);
-    let _ = inner.make(m, first);
+    let inner = monitored(table_on(record), m, first);
     let start = inner.start(3).unwrap_or(0);
-    let mut outer = Monitored::new(inner);
-    let _ = outer.make(l, second);
+    let outer = monitored(inner, l, second);
     let again = outer.start(start).unwrap_or(0);
     println!(rt; "{label}, start 3: {start} then {again}")?;
     print_digest(rt, label, &outer)?;
@@ -91,9 +83,8 @@ pub fn monitored_twice(rt: &HostRuntime) -> io::Result<()> {
         rt,
         "H with 2 and 3",
         &HIDE,
-        (2, 3),
-        &SAFE_SEEN,
-        turns.as_slice(),
+        (2, &SAFE_SEEN),
+        (3, turns.as_slice()),
     )?;
     let turns = turning(heap, 64, 4)?;
     let record = ring(heap, 15)?;
@@ -102,9 +93,8 @@ pub fn monitored_twice(rt: &HostRuntime) -> io::Result<()> {
         rt,
         "ring of 16 with 4 and 4",
         record.as_slice(),
-        (4, 4),
-        first.as_slice(),
-        turns.as_slice(),
+        (4, first.as_slice()),
+        (4, turns.as_slice()),
     )?;
     let record = crowd(heap, 5)?;
     let first = turning(heap, 32, 2)?;
@@ -112,8 +102,7 @@ pub fn monitored_twice(rt: &HostRuntime) -> io::Result<()> {
         rt,
         "crowd of 5 with 2 and 4",
         record.as_slice(),
-        (2, 4),
-        first.as_slice(),
-        turns.as_slice(),
+        (2, first.as_slice()),
+        (4, turns.as_slice()),
     )
 }

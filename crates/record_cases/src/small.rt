@@ -1,10 +1,10 @@
 // The record of one state, the table that is not opened yet, and game H.
 use crate::ask::{ask_all, print_rows};
 use crate::compare::{alike, print_digest, same};
-use crate::games::{HIDE, ONE};
-use crate::open::{Case, open_all};
+use crate::open::{Case, open_all, table_on};
 use crate::show::Outcome;
 use records::table::Table;
+use samples::{HIDE, ONE};
 use std::io;
 
 // A state, a move of player 1, a move of player 2 and the number of a member.
@@ -42,8 +42,8 @@ fn open_and_print<'a>(
     table: &mut Table<'a>,
     bytes: &'a [u8],
 ) -> io::Result<()> {
-    let told = Outcome::of(table.open(bytes));
-    println!(rt; "{label}: {told}")?;
+    let outcome = Outcome(table.open(bytes));
+    println!(rt; "{label}: {outcome}")?;
     print_rows(rt, label, table)
 }
 
@@ -98,9 +98,8 @@ const HIDE_QUESTIONS: [(u16, u8, u8, u16); 19] = [
 ];
 
 pub fn hide(rt: &impl Print) -> io::Result<()> {
-    let mut table = Table::new();
+    let table = table_on(&HIDE);
     let new = Table::new();
-    let _ = table.open(&HIDE);
     print_digest(rt, "H", &table)?;
     print_rows(rt, "H", &table)?;
     ask_all(rt, "H", &table, &HIDE_QUESTIONS)?;

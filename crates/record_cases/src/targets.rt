@@ -1,6 +1,5 @@
 // Sets of states by themselves.
 use crate::build::edited;
-use crate::show::Outcome;
 use records::target::StateSet;
 use std::io;
 
@@ -37,14 +36,10 @@ const CASES: [Case; 25] = [
 
 // Prints the states of a set.
 fn print_set(rt: &impl Print, set: &StateSet) -> io::Result<()> {
-    let mut first = true;
     print!(rt; "{{")?;
-    for state in 0..260 {
-        if set.contains(state) {
-            let gap = if first { "" } else { " " };
-            print!(rt; "{gap}{state}")?;
-            first = false;
-        }
+    for (k, state) in (0..260).filter(|state| set.contains(*state)).enumerate() {
+        let gap = if k > 0 { " " } else { "" };
+        print!(rt; "{gap}{state}")?;
     }
     print!(rt; "}}")
 }
@@ -57,7 +52,7 @@ fn read(rt: &impl Print, label: &str, bytes: &[u8], states: u16) -> io::Result<(
             print!(rt; "ok ")?;
             print_set(rt, &set)?;
         }
-        Err(refusal) => print!(rt; "{}", Outcome(Some(refusal)))?,
+        Err(refusal) => print!(rt; "{refusal}")?,
     }
     println!(rt; "")
 }
@@ -69,14 +64,8 @@ fn read_zeros(rt: &HostRuntime, label: &str, length: usize) -> io::Result<()> {
 }
 
 // How many states a set has.
-fn size(set: &StateSet) -> u16 {
-    let mut size = 0u16;
-    for state in 0..260 {
-        if set.contains(state) {
-            size = size.saturating_add(1);
-        }
-    }
-    size
+fn size(set: &StateSet) -> usize {
+    (0..260).filter(|state| set.contains(*state)).count()
 }
 
 // The set of all of 256 states.
@@ -90,7 +79,7 @@ fn read_full(rt: &impl Print) -> io::Result<()> {
             let far = set.contains(65535);
             println!(rt; "ok, size {size}, 255 {last}, 256 {past}, 65535 {far}")
         }
-        Err(refusal) => println!(rt; "{}", Outcome(Some(refusal))),
+        Err(refusal) => println!(rt; "{refusal}"),
     }
 }
 

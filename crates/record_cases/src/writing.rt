@@ -1,11 +1,12 @@
 // Writing records into buffers.
 use crate::build::turning;
 use crate::compare::{alike, bytes_digest, kept, same};
-use crate::games::{HIDE, ONE, crowd, limit, wide};
+use crate::games::{crowd, limit, wide};
+use crate::open::{monitored, table_on};
 use crate::show::Outcome;
 use game::source::Source;
-use monitor::Monitored;
 use records::table::Table;
+use samples::{HIDE, ONE};
 use std::io;
 use writer::{record_length, write};
 
@@ -14,17 +15,9 @@ const FILL: u8 = 170;
 
 // Whether the buffer begins with the record, and is as before behind it.
 fn holds(buffer: &[u8], record: &[u8]) -> bool {
-    for place in 0..buffer.len() {
-        let byte = if place < record.len() {
-            record[place]
-        } else {
-            FILL
-        };
-        if buffer[place] != byte {
-            return false;
-        }
-    }
-    true
+    buffer
+        .strip_prefix(record)
+        .is_some_and(|rest| rest.iter().all(|byte| *byte == FILL))
 }
 
 // Writes a source into a buffer of so many bytes, and prints what came and what the buffer holds then. Its record is known.
@@ -46,9 +39,8 @@ fn put<S: Source>(
             println!(rt; "{label} into {room}: ok {length}; {after}")
         }
         Err(refusal) => {
-            let told = Outcome(Some(refusal));
             let after = kept(holds(buffer.as_slice(), &[]));
-            println!(rt; "{label} into {room}: {told}; buffer {after}")
+            println!(rt; "{label} into {room}: {refusal}; buffer {after}")
         }
     }
 }
@@ -71,15 +63,13 @@ fn put_all<S: Source>(
 
 // Opens a table on a record and writes it into buffers of several lengths.
 fn put_table(rt: &HostRuntime, label: &str, record: &[u8], rooms: &[usize]) -> io::Result<()> {
-    let mut table = Table::new();
-    let _ = table.open(record);
-    put_all(rt, label, &table, record, rooms)
+    put_all(rt, label, &table_on(record), record, rooms)
 }
 
 // Prints what a table that is opened on a written record shows, beside the source that was written.
 fn print_again<S: Source>(rt: &impl Print, source: &S, record: &[u8]) -> io::Result<()> {
     let mut table = Table::new();
-    let outcome = Outcome::of(table.open(record));
+    let outcome = Outcome(table.open(record));
     let digest = bytes_digest(record);
     let alike = alike(same(&table, source));
     print!(rt; ", digest {digest}, opened {outcome}, {alike}")
@@ -101,19 +91,13 @@ pub fn put_and_open<S: Source>(
             let after = kept(holds(buffer.as_slice(), record));
             println!(rt; ", rest {after}")
         }
-        Err(refusal) => {
-            let told = Outcome(Some(refusal));
-            println!(rt; "{label} into {room}: {told}")
-        }
+        Err(refusal) => println!(rt; "{label} into {room}: {refusal}"),
     }
 }
 
 // A crowd under a monitor of eight states, whose record has 59,993 bytes.
 fn crowd_short(rt: &HostRuntime, base: &[u8], turns: &[u8]) -> io::Result<()> {
-    let mut table = Table::new();
-    let _ = table.open(base);
-    let mut source = Monitored::new(table);
-    let _ = source.make(8, turns);
+    let source = monitored(table_on(base), 8, turns);
     put_all(rt, "crowd of 11 monitored", &source, &[], &[59992])?;
     put_and_open(rt, "crowd of 11 monitored", &source, 59993)?;
     put_and_open(rt, "crowd of 11 monitored", &source, 60001)
@@ -121,10 +105,7 @@ fn crowd_short(rt: &HostRuntime, base: &[u8], turns: &[u8]) -> io::Result<()> {
 
 // With one member more in eight supports, the record has 60,001 bytes and is too long.
 fn crowd_long(rt: &HostRuntime, base: &[u8], turns: &[u8]) -> io::Result<()> {
-    let mut table = Table::new();
-    let _ = table.open(base);
-    let mut source = Monitored::new(table);
-    let _ = source.make(8, turns);
+    let source = monitored(table_on(base), 8, turns);
     put_all(
         rt,
         "crowd of 12 monitored",

@@ -2,7 +2,7 @@
 #![tactic(auto)]
 
 use copies::{count_supports, rewrite};
-use game::refusal::Refusal;
+use game::refusal::{Fault, Refusal};
 use game::source::Source;
 use records::table::Table;
 use std::alloc::Global;
@@ -10,27 +10,21 @@ use std::io::ErrorKind;
 use std::{fs, io};
 
 // The bytes of a file. A file that is not there has none.
+// The program `verdicts` has the same function: it allocates, which no library crate may.
 fn read_or_none(rt: &HostRuntime, path: &str) -> anyhow::Result<Vec<u8>> {
     match fs::read(rt, path) {
         Ok(bytes) => Ok(bytes),
-        Err(e) => {
-            if e.kind() == ErrorKind::NotFound {
-                Ok(Vec::new(rt.alloc()))
-            } else {
-                Err(e.into())
-            }
-        }
+        Err(e) if e.kind() == ErrorKind::NotFound => Ok(Vec::new(rt.alloc())),
+        Err(e) => Err(e.into()),
     }
 }
 
 // One line for a refusal: its number, and the place if it is a fault.
+// The program `verdicts` has a function like it: as a public type that prints itself it would need a text and an edit, and be longer.
 fn print_refusal(rt: &HostRuntime, refusal: Refusal) -> io::Result<()> {
     let number = refusal.number();
     match refusal.fault() {
-        Some(fault) => {
-            let place = fault.place;
-            println!(rt; "refused {number} at {place} in game")
-        }
+        Some(Fault { place, .. }) => println!(rt; "refused {number} at {place} in game"),
         None => println!(rt; "refused {number} in game"),
     }
 }
