@@ -2,7 +2,7 @@
 use bench::play::Play;
 use std::fmt;
 
-// A play at rest.
+// A play at rest. Three programs print a play, each in other words.
 #[derive(Clone, Copy)]
 pub struct AtRest<'a>(pub &'a Play);
 

@@ -31,6 +31,7 @@ impl fmt::Display for Digest {
 }
 
 // The digest of the verdicts on the states below a number. It cannot pass 2^24, so nothing saturates.
+// Three sums in one loop: three chains would ask each question three times.
 fn sum_up<S: Source>(bench: &Bench<S>, mode: Mode, states: u16) -> Result<Digest, Refusal> {
     let mut highest = 0u8;
     let mut ranks = 0u32;

@@ -52,7 +52,7 @@ impl fmt::Display for Closing {
     }
 }
 
-// How a play stands once no round of it is open.
+// How a play stands once no round of it is open. Three programs print a play, each in other words.
 #[derive(Drop)]
 struct Ending {
     closing: Closing,
