@@ -47,7 +47,8 @@ impl Monitor {
     }
 }
 
-// The place of the first entry that is not below m. A loop with an index: `position` would say the same, and be no shorter.
+// The place of the first entry that is not below m. A loop with an index, a form that this project keeps here, though
+// `position` would say the same (docs/DECISIONS.md).
 fn first_wrong(m: u16, table: &[u8]) -> Option<usize>
     ensures { MatchOption result (Entries m table.now) (FirstWrong m table.now) }
 {
