@@ -1,16 +1,18 @@
 -- The standing bits of a byte, and the groups of a set.
-use Rattle.std.proofs.Common.{◌≡◌, ℕ, zero, suc, ◌+◌, ◌-◌, ◌*◌, ◌/◌, ◌%◌, ◌^◌, ◌<◌, ◌≤◌, Bool, true, false, cond, eqb, List, [], ◌∷◌, ◌++◌, map, length, get_or, Some, None, Option, Bor, MatchBool, MatchOption, unwrap_or, sym, refl, ap, ◌∙◌, subst, ap₂, ⊎_elim, add-one, zero-add, arith}
+use Rattle.std.proofs.Common.{◌≡◌, ℕ, zero, suc, ◌+◌, ◌-◌, ◌*◌, ◌/◌, ◌%◌, ◌^◌, ◌<◌, ◌≤◌, Bool, true, false, cond, eqb, ◌&&◌, List, [], ◌∷◌, ◌++◌, map, length, take, drop, get_or, Some, None, Option, Bor, MatchBool, MatchOption, unwrap_or, sym, refl, ap, ◌∙◌, subst, ap₂, ⊎_elim, add-one, zero-add, arith}
 use Rattle.std.specs.Int.{bit_at}
 use Rattle.std.specs.List.{range_with_len, filter, slice_get, sum_by, AllWithin, HoldsAt}
 use Rattle.std.proofs.lemmas.Bool.{cases_Bool, cases_lt}
-use Rattle.std.proofs.lemmas.List.{length-append, length-map, get_or-append-add, get_or-map, map-id}
+use Rattle.std.proofs.lemmas.List.{length-append, length-map, length-drop, get_or-append-add, get_or-drop, get_or-map, map-id, take_more}
 use Rattle.std.proofs.lemmas.List.FromFn.{length-range_with_len, get_or-range_with_len, filter_of_map_range_with_len_more, sum_by-map-range_with_len_more}
+use Rattle.std.proofs.lemmas.List.Sums.{sum_by_push}
 use Rattle.std.proofs.lemmas.Nat.Bits.{bit_at_cat_low, bit_at_cat_high}
 use Rattle.std.proofs.lemmas.Option.{unwrap_or-slice_get}
 use Rattle.game.specs.Below.{below, rank, bit, elem}
-use Rattle.game.proofs.Below.{below_same, below_add, get_or_below_more, rank_zero}
-use Rattle.layout.specs.Reading.{at, map_bit, group_place, moves_in}
+use Rattle.game.proofs.Below.{below_same, below_none, below_add, get_or_below_more, rank_zero, rank_yes, rank_no, bit_zero}
+use Rattle.layout.specs.Reading.{at, map_bit, group_place, in_set, moves_in}
 use Rattle.layout.specs.Targets.{states_of}
+use Rattle.layout.proofs.Members.{in_group}
 use Rattle.layout.proofs.Sets.{elem_below, elem_past}
 use Rattle.layout.proofs.Places.{group_place_first, group_place_yes, group_place_no}
 
@@ -102,6 +104,50 @@ module _ (q : ℕ → Bool) (g c : ℕ) (h : (i : ℕ) → i < 8 → bit c i ≡
       ∙ ap (λ j. get_or (xs ++ map (λ t. 8 * g + t) ys) j 0) sum
       ∙ get_or-append-add xs (map (λ t. 8 * g + t) ys) i 0
       ∙ get_or-map (λ t. 8 * g + t) ys i 0 0 e
+
+no_moves : moves_in 0 ≡ 0
+unfolding moves_in
+no_moves = ap length (below_none (bit 0) 8 (λ k l. bit_zero k))
+
+-- Of the set that begins at p: the bits of the byte of a group that its map has, and how many members the groups so far have.
+module _ (bs : List ℕ) (p n : ℕ) where
+  abbrev pub byte : ℕ
+  byte = get_or bs (group_place bs p n) 0
+
+  pub has_bits : map_bit bs p n ≡ true → (i : ℕ) → i < 8 → bit byte i ≡ in_set bs p (8 * n + i)
+  has_bits e i l = sym (in_group bs p n i l ∙ ap (λ t. t && bit byte i) e)
+
+  pub count_yes : map_bit bs p n ≡ true → rank (in_set bs p) (8 * (n + 1)) ≡ rank (in_set bs p) (8 * n) + moves_in byte
+  count_yes e = count_more (in_set bs p) n byte (has_bits e)
+
+  pub count_no : map_bit bs p n ≡ false → rank (in_set bs p) (8 * (n + 1)) ≡ rank (in_set bs p) (8 * n)
+  count_no e = omega (arith, no_moves, count_more (in_set bs p) n 0 (λ i l. bit_zero i ∙ sym (in_group bs p n i l ∙ ap (λ t. t && bit byte i) e)))
+
+  group_place_is : group_place bs p n ≡ p + 4 + rank (map_bit bs p) n
+  unfolding group_place
+  group_place_is = refl
+
+-- the members of the groups below n, counted in the bytes of those groups, which stand one after the other
+pub sum_bytes : (bs : List ℕ) (p n : ℕ) → group_place bs p n ≤ length bs → sum_by moves_in (take (rank (map_bit bs p) n) (drop (p + 4) bs)) ≡ rank (in_set bs p) (8 * n)
+sum_bytes bs p zero inside = rw (rank_zero (map_bit bs p), rank_zero (in_set bs p)) refl
+sum_bytes bs p (suc n) inside =
+    let r = rank (map_bit bs p) n in
+    let xs = drop (p + 4) bs in
+    let inside : group_place bs p (n + 1) ≤ length bs = rw (add-one n) inside in
+    rw (← (add-one n)) (
+    ⊎_elim
+    (λ e.
+    let place = group_place_is bs p n in
+    let room : r < length xs = omega (arith, length-drop (p + 4) bs, group_place_yes bs p n e) in
+    let here = ap moves_in (get_or-drop (p + 4) bs r 0 ∙ ap (λ k. get_or bs k 0) (sym place)) in
+    ap (λ k. sum_by moves_in (take k xs)) (rank_yes (map_bit bs p) n e)
+    ∙ ap (sum_by moves_in) (take_more xs r 0 room)
+    ∙ sum_by_push moves_in (take r xs) (get_or xs r 0)
+    ∙ omega (arith, sum_bytes bs p n (omega (arith, group_place_yes bs p n e)), here, count_yes bs p n e))
+    (λ e.
+    ap (λ k. sum_by moves_in (take k xs)) (rank_no (map_bit bs p) n e)
+    ∙ omega (arith, sum_bytes bs p n (omega (arith, group_place_no bs p n e)), count_no bs p n e))
+    (cases_Bool (map_bit bs p n)))
 
 -- a set whose groups lie in the bytes ends there
 pub groups_end : (bs : List ℕ) (p n : ℕ) → p + 4 ≤ length bs → ((g : ℕ) → g < n → map_bit bs p g ≡ true → group_place bs p g < length bs) → group_place bs p n ≤ length bs

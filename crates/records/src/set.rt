@@ -58,26 +58,32 @@ impl<'a> WholeSet<'a> {
         groups
     }
 
-    // how many members the set has
+    // how many members the set has: the bytes of its groups stand one after the other
     pub(crate) fn size(&self) -> u16
         ensures { result ≡ length (members self.now) }
     {
-        (0..32u16).map(|group| count_bits(self.group(group))).sum()
+        let groups = &self.map.bytes[self.map.at + 4..self.end()];
+        groups.iter().map(|byte| count_bits(*byte)).sum()
     }
 
     // member k, counted from 0 in ascending order, or 0
     pub(crate) fn member(&self, k: u16) -> u16
         ensures { result ≡ slice_index (members self.now) k }
     {
-        // No method of iterators passes over groups by their counts, so what is left is counted down.
+        // No method of iterators passes over groups by their counts, so what is left is counted down, and the place goes along: to work it
+        // out at each group would run slower.
         let mut left = k;
+        let mut place = self.map.at + 4;
         for group in 0..32u16 {
-            let byte = self.group(group);
-            let count = count_bits(byte);
-            if left < count {
-                return 8 * group + find_bit(byte, left);
+            if self.map.has(group) {
+                let byte = self.map.bytes[place];
+                let count = count_bits(byte);
+                if left < count {
+                    return 8 * group + find_bit(byte, left);
+                }
+                left -= count;
+                place += 1;
             }
-            left -= count;
         }
         0
     }

@@ -29,30 +29,28 @@ impl<'a> Table<'a> {
     ghost use Rattle.layout.specs.Opening.{Opened, NotOpened, one_state};
     ghost use Rattle.records.specs.WholeSet.{members};
 
-    // A table on the record, if the bytes are the record of a game.
-    fn read(bytes: &'a [u8]) -> Result<Table<'a>, Refusal>
-        ensures { MatchResult result (λ t. (t.bytes.now ≡ bytes.now) × Opened bytes.now (shown bytes.now)) (λ e. NotOpened bytes.now (told e)) }
-    {
-        let mut places = Places::new();
-        read_record(bytes, &mut places)?;
-        Ok(Table { bytes, places })
-    }
-
     // A table that is not opened yet shows the game with one state and move 0 for both players.
     pub fn new() -> Table<'a>
         ensures { Same one_state (shown result.bytes.now) }
     {
-        match Table::read(&ONE_STATE) {
-            Ok(table) => table,
+        let mut places = Places::new();
+        match read_record(&ONE_STATE, &mut places) {
+            Ok(()) => Table {
+                bytes: &ONE_STATE,
+                places,
+            },
             Err(_) => unreachable!(),
         }
     }
 
     // Opens the table on the bytes. Where they are no record of a game, or too long, the table is as before.
+    // (The places are noted here: in a function that gives a whole table back they would be cleared and copied once more.)
     pub fn open(&mut self, bytes: &'a [u8]) -> Result<(), Refusal>
         ensures { MatchResult result (λ _. Opened bytes.now (shown self.new.bytes.now)) (λ e. NotOpened bytes.now (told e) × (self.new ≡ self.old)) }
     {
-        *self = Table::read(bytes)?;
+        let mut places = Places::new();
+        read_record(bytes, &mut places)?;
+        *self = Table { bytes, places };
         Ok(())
     }
 

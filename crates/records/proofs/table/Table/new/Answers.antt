@@ -1,8 +1,8 @@
-use Rattle.layout.proofs.Opens.{one_state_record}
+use Rattle.layout.proofs.Opens.{opened, not_opened, one_state_record}
 use Rattle.records.proofs.table.Table.new.Goals as goal
 
 pub unreachable-requires : goal.unreachable-requires
-unreachable-requires c = c.in-Err.ensures.no_record _ one_state_record
+unreachable-requires c = (not_opened _ _ c.in-Err.ensures).no_record _ one_state_record
 
 pub returns : goal.returns
-returns c = let read = c.in-Ok.ensures in rw read.0 (read.1.no_other _ one_state_record)
+returns c = let ready = c.in-Ok.ensures in (opened _ ready.0 ready.1).no_other _ one_state_record
