@@ -17,7 +17,6 @@ use Rattle.theory.proofs.Layers.{upto_enters}
 use Rattle.theory.proofs.Sure.{sure_grows, reply_some}
 use Rattle.solver.specs.Entries.{verdict_in, rank_of, moves_of}
 use Rattle.solver.specs.declared.entries.Entry.{Entry}
-use Rattle.solver.specs.declared.entries.Verdict.{Verdict}
 use Rattle.bench.specs.Answers.{judged}
 use Rattle.bench.specs.Sound.{Sound}
 use Rattle.bench.specs.Held.{game_of, held, position, NotAsked, NotHanded, NotCountered, NoReply, RepliesBy}
@@ -34,11 +33,6 @@ rank_there None e = absurd (false≢true e)
 pub no_rank : (v : Option ℕ) → is_some v ≡ false → v ≡ None
 no_rank (Some r) e = absurd (false≢true (sym e))
 no_rank None e = refl
-
--- a verdict has a rank
-pub rank_some : (v : Option Verdict) → is_some (rank_of v) ≡ is_some v
-rank_some (Some v) = refl
-rank_some None = refl
 
 -- the verdict held is that t is sure
 abbrev pub HeldSure : List Entry → ℕ → Type 0

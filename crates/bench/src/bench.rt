@@ -179,8 +179,7 @@ impl<S: Source> Bench<S> {
         ensures step { Step (game_of self.now) (held self.now) (to_verdict mode state) (judged result) (held self.now) }
     {
         self.check_solved(state)?;
-        let verdict = self.entries.verdict(mode, state);
-        Ok(verdict.map(|verdict| verdict.rank))
+        Ok(self.entries.verdict(mode, state).rank)
     }
 
     // The moves handed out at a winning state, one bit for each move.
@@ -189,8 +188,9 @@ impl<S: Source> Bench<S> {
         ensures step { Step (game_of self.now) (held self.now) (to_moves mode state) (handed result) (held self.now) }
     {
         self.check_solved(state)?;
-        match self.entries.verdict(mode, state) {
-            Some(verdict) => Ok(verdict.moves),
+        let verdict = self.entries.verdict(mode, state);
+        match verdict.rank {
+            Some(_) => Ok(verdict.moves),
             None => Err(Refusal::NotWinning),
         }
     }
@@ -207,7 +207,7 @@ impl<S: Source> Bench<S> {
             }
             for k in 0..self.source.support_size(state, a, b) {
                 let successor = self.source.member(state, a, b, k);
-                if self.entries.verdict(Mode::Sure, successor).is_none() {
+                if self.entries.verdict(Mode::Sure, successor).rank.is_none() {
                     return Some(Reply { b, successor });
                 }
             }
@@ -221,7 +221,7 @@ impl<S: Source> Bench<S> {
         ensures step { Step (game_of self.now) (held self.now) (to_reply state a) (countered result) (held self.now) }
     {
         self.check_solved(state)?;
-        if self.entries.verdict(Mode::Sure, state).is_some() {
+        if self.entries.verdict(Mode::Sure, state).rank.is_some() {
             return Err(Refusal::SureState);
         }
         if !has_bit(self.entries.kept(Player::One, state), a) {

@@ -28,11 +28,11 @@ alike_position g new old (kept, target) =
     ∙ ap (λ t. record { game = g; kept = kept_in old; target = t }) (fun_ext target)
 
 -- the kept moves do not see the verdicts
-kept_put : (e : Entry) (sure almost : Option Verdict) (p : Player) → kept_of (record { one = e.one; two = e.two; target = e.target; sure = sure; almost = almost }) p ≡ kept_of e p
+kept_put : (e : Entry) (sure almost : Verdict) (p : Player) → kept_of (record { one = e.one; two = e.two; target = e.target; sure = sure; almost = almost }) p ≡ kept_of e p
 kept_put e sure almost One = refl
 kept_put e sure almost Two = refl
 
-pub alike_put : (entries : List Entry) (n : ℕ) (sure almost : Option Verdict) → n < length entries → Alike (with_verdicts entries n sure almost) entries
+pub alike_put : (entries : List Entry) (n : ℕ) (sure almost : Verdict) → n < length entries → Alike (with_verdicts entries n sure almost) entries
 alike_put entries n sure almost l = (
   λ p s.
       ⊎_elim
@@ -47,7 +47,7 @@ alike_put entries n sure almost l = (
 )
 
 -- the verdicts on s: in mode sure as the ranks tell, in mode almost as the levels and the stay moves tell
-pub record Tells (x : Position) (ranks levels : List (Option ℕ)) (stay : List ℕ) (s : ℕ) (sure almost : Option Verdict) : Type 0 where
+pub record Tells (x : Position) (ranks levels : List (Option ℕ)) (stay : List ℕ) (s : ℕ) (sure almost : Verdict) : Type 0 where
   pub sure_rank : rank_of sure ≡ rank_at ranks s
   pub sure_moves : (a : ℕ) → Exactly (bit (moves_of sure) a ≡ true) (LowerMove x ranks s a)
   pub almost_rank : rank_of almost ≡ rank_at levels s
@@ -63,7 +63,7 @@ module _ {g : Game} {old : List Entry} {ranks levels : List (Option ℕ)} {stay 
   held_none = record { alike = (λ p s. refl, λ s. refl); verdicts = λ s l. absurd (omega arith) }
 
   -- one state on
-  pub held_more : {n : ℕ} {now next : List Entry} (sure almost : Option Verdict) → n < length now → Held g old ranks levels stay n now → Tells (position_of g now) ranks levels stay n sure almost → next ≡ with_verdicts now n sure almost → Held g old ranks levels stay (n + 1) next
+  pub held_more : {n : ℕ} {now next : List Entry} (sure almost : Verdict) → n < length now → Held g old ranks levels stay n now → Tells (position_of g now) ranks levels stay n sure almost → next ≡ with_verdicts now n sure almost → Held g old ranks levels stay (n + 1) next
   held_more {n = n} {now = now} sure almost l held tells is =
       let (kept, target) = alike_put now n sure almost l in
       subst (Held g old ranks levels stay (n + 1)) (sym is)

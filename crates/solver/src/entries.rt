@@ -6,30 +6,36 @@ use game::mode::Mode;
 use game::player::Player;
 use game::source::MOST_STATES;
 
-// The verdict on a winning state in one mode: its rank, and the moves handed out there.
+// A verdict on a state in one mode: its rank, if it is winning, and the moves handed out there.
 #[derive(Clone, Copy, PartialEq, Eq, Debug)]
 pub struct Verdict {
-    pub rank: u8,
+    pub rank: Option<u8>,
     pub moves: u8,
 }
 
-// One state: the kept moves of both players, whether it is in the target, and its verdict in each mode in which it is winning.
+// One state: the kept moves of both players, whether it is in the target, and its verdicts.
 #[derive(Clone, Copy, PartialEq, Eq, Debug)]
 pub struct Entry {
     pub one: u8,
     pub two: u8,
     pub target: bool,
-    pub sure: Option<Verdict>,
-    pub almost: Option<Verdict>,
+    pub sure: Verdict,
+    pub almost: Verdict,
 }
+
+// no rank, and no moves
+pub(crate) const NO_VERDICT: Verdict = Verdict {
+    rank: None,
+    moves: 0,
+};
 
 // no kept moves, not in the target, no verdicts
 const BLANK: Entry = Entry {
     one: 0,
     two: 0,
     target: false,
-    sure: None,
-    almost: None,
+    sure: NO_VERDICT,
+    almost: NO_VERDICT,
 };
 
 #[derive(Drop)]
@@ -70,8 +76,8 @@ impl Entries {
         self.entry(state).target
     }
 
-    // the verdict on a state that is held, if there is one
-    pub fn verdict(&self, mode: Mode, state: u16) -> Option<Verdict>
+    // the verdict on a state that is held
+    pub fn verdict(&self, mode: Mode, state: u16) -> Verdict
         ensures { result ≡ verdict_in self.now.at mode state }
     {
         match mode {
@@ -103,7 +109,7 @@ impl Entries {
     }
 
     // Puts verdicts into the entry of a state. Past the last entry nothing changes.
-    pub fn set_verdicts(&mut self, state: u16, sure: Option<Verdict>, almost: Option<Verdict>)
+    pub fn set_verdicts(&mut self, state: u16, sure: Verdict, almost: Verdict)
         ensures { self.new.at ≡ with_verdicts self.old.at state sure almost }
     {
         if state < MOST_STATES {

@@ -12,7 +12,7 @@ ghost use Rattle.solver.specs.Entries.{kept_in, target_in, verdict_in, position_
 ghost use Rattle.solver.specs.Moves.{LowerMove};
 ghost use Rattle.solver.specs.Positions.{meant};
 
-use crate::entries::{Entries, Verdict};
+use crate::entries::{Entries, NO_VERDICT, Verdict};
 use crate::levels::{Force, levels};
 use crate::links::Links;
 use crate::outer::{AlmostSure, Outer};
@@ -46,37 +46,42 @@ impl fmt::Display for Tally {
 }
 
 // The verdict on a state in mode sure. At a rank above 0 all moves are handed out that lead into lower ranks.
-fn sure_verdict<S: Source>(position: &Position<S>, ranks: &Ranks, state: u16) -> Option<Verdict>
+fn sure_verdict<S: Source>(position: &Position<S>, ranks: &Ranks, state: u16) -> Verdict
     ensures rank { rank_of result ≡ rank_at ranks.now.at state }
     ensures moves { (a : ℕ) → Exactly (bit (moves_of result) a ≡ true) (LowerMove (meant S.game position.now) ranks.now.at state a) }
 {
-    let rank = ranks.rank(state)?;
+    let Some(rank) = ranks.rank(state) else {
+        return NO_VERDICT;
+    };
     let moves = if rank > 0 {
         position.moves_into(state, ranks, rank - 1)
     } else {
         0
     };
-    Some(Verdict { rank, moves })
+    Verdict {
+        rank: Some(rank),
+        moves,
+    }
 }
 
 // The verdict on a state in mode almost. Outside the target all moves are handed out that stay among the almost-sure states.
-fn almost_verdict(
-    entries: &Entries,
-    levels: &Ranks,
-    stay: &[u8; 256],
-    state: u16,
-) -> Option<Verdict>
+fn almost_verdict(entries: &Entries, levels: &Ranks, stay: &[u8; 256], state: u16) -> Verdict
     requires { state < 256 }
     ensures rank { rank_of result ≡ rank_at levels.now.at state }
     ensures moves { moves_of result ≡ (if target_in entries.now.at state then 0 else (if up_to 255 (rank_at levels.now.at state) then slice_index stay.now state else 0)) }
 {
-    let rank = levels.rank(state)?;
+    let Some(rank) = levels.rank(state) else {
+        return NO_VERDICT;
+    };
     let moves = if entries.target(state) {
         0
     } else {
         stay[usize::from(state)]
     };
-    Some(Verdict { rank, moves })
+    Verdict {
+        rank: Some(rank),
+        moves,
+    }
 }
 
 // Works out the verdicts on all states, and puts them into the entries; kept moves and target stay. It answers for any entries, so what it

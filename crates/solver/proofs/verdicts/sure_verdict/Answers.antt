@@ -18,4 +18,4 @@ lower_moves x ranks s r c is above stays a =
 
 pub returns-then-rank-gt0-clause-moves : goal.returns-then-rank-gt0-clause-moves
 returns-then-rank-gt0-clause-moves g c =
-    lower_moves (meant g.S.Source.game c.args.position.now) c.args.ranks.now.at c.args.state c.in_ok-rank.rank c.moves_into-moves.result (sym c.in_ok-rank.ensures) c.if-rank-gt0.true c.moves_into-moves.ensures
+    lower_moves (meant g.S.Source.game c.args.position.now) c.args.ranks.now.at c.args.state c.in-Some.rank c.moves_into-moves.result (sym c.in-Some.ensures) c.if-rank-gt0.true c.moves_into-moves.ensures

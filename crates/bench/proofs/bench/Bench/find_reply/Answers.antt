@@ -1,11 +1,11 @@
-use Rattle.std.proofs.Common.{rules, ◌≡◌, ℕ, get_or, Some, ◌∙◌, arith, below_more}
+use Rattle.std.proofs.Common.{rules, ◌≡◌, ℕ, get_or, Some, arith, below_more}
 use Rattle.game.specs.declared.mode.Mode.TheVariants.{Sure}
 use Rattle.game.specs.declared.player.Player.TheVariants.{Two}
 use Rattle.theory.specs.Positions.{Keeps, Leads}
 use Rattle.theory.proofs.Supports.{place_elem, all_members, all_bits}
 use Rattle.solver.specs.Entries.{verdict_in, rank_of}
 use Rattle.bench.specs.Held.{position}
-use Rattle.bench.proofs.Questions.{rank_there, rank_some, no_rank, HeldSure}
+use Rattle.bench.proofs.Questions.{rank_there, no_rank, HeldSure}
 use Rattle.bench.proofs.bench.Bench.find_reply.Goals as goal
 
 pub returns-then-is_none : goal.returns-then-is_none
@@ -15,7 +15,7 @@ pub loop-k-preserved : goal.loop-k-preserved
 loop-k-preserved g c =
     let entries = c.args.self.now.entries.at in
     let support = (g.S.Source.game c.args.self.now.source).support c.args.state c.args.a c.loop-b.b in
-    let (r, there) = rank_there (rank_of c.verdict.result) (rank_some c.verdict.result ∙ c.if-is_none.ensures) in
+    let (r, there) = rank_there (rank_of c.verdict.result) c.if-is_none.ensures in
     let sure : rank_of (verdict_in entries Sure (get_or support c.loop-k.k 0)) ≡ Some r = cc in
     below_more (λ k. HeldSure entries (get_or support k 0)) c.loop-k.k c.loop-k.invariant (r, sure)
 
