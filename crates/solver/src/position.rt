@@ -23,6 +23,8 @@ pub(crate) struct Position<'a, S> {
 // Ranks and a level go together here and in a step, but ranks are written between two levels: a struct of both would be made at each call.
 impl<S: Source> Position<'_, S> {
     // All kept moves of player 1 that lead from a state into the ranks up to `level`, whatever player 2 replies.
+    // Inlined: most callers ask for all ranks, and the level then needs no test.
+    #[inline(always)]
     pub(crate) fn moves_into(&self, state: u16, ranks: &Ranks, level: u8) -> u8
         ensures { (a : ℕ) → Exactly (bit result a ≡ true) (Stay (meant S.game self.now) (Within ranks.now.at level) state a) }
     {

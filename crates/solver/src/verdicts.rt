@@ -14,7 +14,7 @@ ghost use Rattle.solver.specs.Positions.{meant};
 
 use crate::entries::{Entries, NO_VERDICT, Verdict};
 use crate::levels::{Force, levels};
-use crate::links::Links;
+use crate::links::{Links, ROW, note_links};
 use crate::outer::{AlmostSure, Outer};
 use crate::position::Position;
 use crate::ranks::Ranks;
@@ -95,7 +95,13 @@ pub fn work_out<S: Source>(source: &S, entries: &mut Entries) -> Tally
     ensures almost { Playable (position_of (S.Source.game source.now) entries.old.at) → Counts (λ s. (k : ℕ) × AlmostRank (position_of (S.Source.game source.now) entries.old.at) k s) (S.Source.game source.now).size result.almost }
     ensures rounds { Playable (position_of (S.Source.game source.now) entries.old.at) → OuterRounds (position_of (S.Source.game source.now) entries.old.at) result.rounds }
 {
-    let links = Links::new(Position { source, entries });
+    let position = Position { source, entries };
+    let mut before = [[false; ROW]; 256];
+    note_links(position, &mut before);
+    let links = Links {
+        position,
+        before: &before,
+    };
     let sure = levels(&Force { links: &links });
     let AlmostSure {
         outer: Outer { stay, .. },

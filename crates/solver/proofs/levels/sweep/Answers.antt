@@ -46,5 +46,5 @@ returns-clause-marks g c =
     let has_states = g.met.T.Step.has_states c.args.step.now in
     let size : c.states-state-end.result ≡ x.game.size = c.states-state-end.ensures ∙ ap (λ y. y.game.size) c.links-links.ensures in
     let all : c.loop-state.state ≡ x.game.size = omega arith in
-    let linked : Linked x c.links-links.result.now.before = subst (λ y. Linked y c.links-links.result.now.before) c.links-links.ensures c.links-links.result.now.linked in
+    let linked : Linked x c.links-links.result.now.before.now = subst (λ y. Linked y c.links-links.result.now.before.now) c.links-links.ensures c.links-links.result.now.linked in
     noted_spares x step_set (states_inside x step_set has_states) c.args.level linked (swept_all (states_layered x step_set has_states) c.args.level (rw all at c.loop-state.invariant.swept)) c.loop-state.invariant.noted

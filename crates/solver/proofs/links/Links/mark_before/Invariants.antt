@@ -6,6 +6,6 @@ use Rattle.solver.proofs.links.Links.mark_before.Given as goal
 abbrev pub invariant-loop-s : goal.invariant-loop-s
 invariant-loop-s g l = record {
   whole : length l.marks ≡ 256;
-  seen : (s : ℕ) → s < l.s → get_or l.marks s false ≡ (get_or l.initial.marks s false || link l.self.before s l.state);
+  seen : (s : ℕ) → s < l.s → get_or l.marks s false ≡ (get_or l.initial.marks s false || link l.self.before.now s l.state);
   unseen : (s : ℕ) → l.s ≤ s → get_or l.marks s false ≡ get_or l.initial.marks s false;
 }

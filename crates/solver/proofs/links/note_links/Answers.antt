@@ -4,8 +4,8 @@ use Rattle.game.specs.Below.{bit}
 use Rattle.game.specs.declared.player.Player.TheVariants.{One, Two}
 use Rattle.solver.specs.Positions.{meant}
 use Rattle.solver.proofs.Linking.{states_grow, moves_grow, replies_add, replies_skip, moves_add, states_add, all_linked}
-use Rattle.solver.proofs.links.Links.new.Goals as goal
-use Rattle.solver.proofs.links.Links.new.Goals.{then-has_bit+then-has_bit-2, else-has_bit, else-has_bit-via-then-has_bit+else-has_bit-2, else-has_bit-via-else-has_bit}
+use Rattle.solver.proofs.links.note_links.Goals as goal
+use Rattle.solver.proofs.links.note_links.Goals.{then-has_bit+then-has_bit-2, else-has_bit, else-has_bit-via-then-has_bit+else-has_bit-2, else-has_bit-via-else-has_bit}
 
 pub loop-b-preserved : goal.loop-b-preserved
 loop-b-preserved g c =
@@ -48,8 +48,8 @@ pub loop-state-preserved : goal.loop-state-preserved
 loop-state-preserved g c =
     states_add (meant g.S.Source.game c.args.position) c.loop-a.before c.loop-state.state c.loop-a.a (omega arith) (omega arith) c.loop-a.invariant.moves c.loop-a.invariant.states
 
-pub invariant_of-result : goal.invariant_of-result
-invariant_of-result g c =
+pub returns : goal.returns
+returns g c =
     let x = meant g.S.Source.game c.args.position in
     let all : c.loop-state.state ≡ x.game.size = omega arith in
-    record { linked = all_linked x (g.S.Source.valid c.args.position.source.now) c.loop-state.before (rw all at c.loop-state.invariant) }
+    all_linked x (g.S.Source.valid c.args.position.source.now) c.loop-state.before (rw all at c.loop-state.invariant)

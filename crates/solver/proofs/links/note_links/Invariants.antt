@@ -1,6 +1,6 @@
 use Rattle.solver.specs.Positions.{meant}
 use Rattle.solver.proofs.Linking.{StatesNoted, MovesNoted, RepliesNoted}
-use Rattle.solver.proofs.links.Links.new.Given as goal
+use Rattle.solver.proofs.links.note_links.Given as goal
 
 -- the successors of the states so far are noted
 abbrev pub invariant-loop-state : goal.invariant-loop-state
