@@ -105,6 +105,13 @@ bit_added c i small l off =
     let sum : c + 1 * 2 ^ i % 256 ≡ weigh q 8 = omega (arith, weigh_bit c 8 small, more, one_shl i 8 l) in
     (omega (arith, sum, weigh_byte q 8 (omega arith)), λ j. ap (λ d. bit d j) sum ∙ bit_byte q j (grind (arith, nat_tests, bit_past c 8 j small)))
 
+-- a byte is at least the weight of each of its standing bits
+pub weight_le : (c i : ℕ) → c < 256 → bit c i ≡ true → 2 ^ i ≤ c
+weight_le c i small on =
+    let q : ℕ → Bool = λ j. cond (eqb j i) false (bit c j) in
+    let l : i < 8 = bit_in_byte c i small on in
+    omega (arith, weigh_bit c 8 small, weigh_add q (bit c) 8 i l (grind (arith, nat_tests)) on (λ j ne. grind (arith, nat_tests)))
+
 pub bit_taken : (c i : ℕ) → c < 256 → bit c i ≡ true → (j : ℕ) → bit (c - 1 * 2 ^ i % 256) j ≡ cond (eqb j i) false (bit c j)
 bit_taken c i small on j =
     let q : ℕ → Bool = λ j. cond (eqb j i) false (bit c j) in

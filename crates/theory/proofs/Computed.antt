@@ -1,6 +1,6 @@
 -- The computed verdicts are the verdicts.
-use Rattle.std.proofs.Common.{◌≡◌, ℕ, zero, suc, ◌<◌, Bool, true, not, ◌&&◌, ◌||◌, eqb, ◌⊎◌, ◌↔◌, List, [], ◌∷◌, Some, None, Option, sym, refl, ap, ◌∙◌, subst, inl, inr, ⊎_elim, arith, below_more}
-use Rattle.std.proofs.lemmas.Bool.{false≢true, both_ways, cases_Bool, or_right, or_cases, and_from}
+use Rattle.std.proofs.Common.{◌≡◌, ℕ, zero, suc, ◌<◌, Bool, true, false, cond, not, ◌&&◌, ◌||◌, eqb, ◌⊎◌, ◌↔◌, List, [], ◌∷◌, ◌++◌, Some, None, Option, sym, refl, ap, ◌∙◌, subst, inl, inr, ⊎_elim, arith, below_more}
+use Rattle.std.proofs.lemmas.Bool.{false≢true, both_ways, cases_Bool, eqb-true, eq-eqb, or_left, or_right, or_cases, and_from}
 use Rattle.std.proofs.lemmas.Option.{same_Some, none-some}
 use Rattle.std.proofs.lemmas.Bool.Decides.{Decides-and, Decides-like, Decides-not, nat_tests, Decides-or}
 use Rattle.game.specs.Below.{below, bit, elem}
@@ -49,6 +49,27 @@ use Rattle.theory.proofs.Rounds.{target_outer, level_inside, outer_state, levels
 -- the members of a list are those of a set
 abbrev pub Lists : List ℕ → (ℕ → Type 0) → Type 0
 Lists X P = (s : ℕ) → (elem s X ≡ true) ↔ (P s)
+
+-- members of two lists joined, and of a list of one number or none
+pub elem_append : (s : ℕ) (xs ys : List ℕ) → (elem s (xs ++ ys) ≡ true) ↔ ((elem s xs ≡ true) ⊎ (elem s ys ≡ true))
+unfolding elem
+elem_append s [] ys = (inr, ⊎_elim (λ e. absurd (false≢true e)) (λ e. e))
+elem_append s (x ∷ xs) ys =
+    let (f, g) = elem_append s xs ys in (
+      λ e.
+          ⊎_elim
+          (λ a. inl (or_left (eqb s x) (elem s xs) a))
+          (λ a. ⊎_elim (λ b. inl (or_right (eqb s x) (elem s xs) b)) inr (f a))
+          (or_cases (eqb s x) (elem s (xs ++ ys)) e),
+      ⊎_elim
+          (λ e. ⊎_elim (λ a. or_left (eqb s x) (elem s (xs ++ ys)) a) (λ a. or_right (eqb s x) (elem s (xs ++ ys)) (g (inl a))) (or_cases (eqb s x) (elem s xs) e))
+          (λ e. or_right (eqb s x) (elem s (xs ++ ys)) (g (inr e))),
+    )
+
+pub elem_single : (s n : ℕ) (b : Bool) → (elem s (cond b (n ∷ []) []) ≡ true) ↔ ((s ≡ n) × (b ≡ true))
+unfolding elem
+elem_single s n true = (λ e. ⊎_elim (λ a. (eqb-true s n a, refl)) (λ a. absurd (false≢true a)) (or_cases (eqb s n) false e), λ (e, _). or_left (eqb s n) false (eq-eqb s n e))
+elem_single s n false = (λ e. absurd (false≢true e), λ (_, e). absurd (false≢true e))
 
 -- the members of the numbers below n that pass a test
 pub below_lists : (p : ℕ → Bool) (n : ℕ) → Lists (below p n) (λ s. (s < n) × (p s ≡ true))

@@ -44,7 +44,10 @@ module _ {n : ℕ} {start : ℕ → Type 0} {step : (ℕ → Type 0) → ℕ →
   pub enters_one : (j k s : ℕ) → Enters (Upto start step) j s → Enters (Upto start step) k s → j ≡ k
   enters_one j k s = least_one (λ i. Upto start step i s) j k
 
-  -- a state in a layer up to j enters at most at j
+  -- where a state enters: above j if it is in no layer up to j, else at most at j
+  pub enters_above : (j k s : ℕ) → (Upto start step j s → ⊥) → Enters (Upto start step) k s → j < k
+  enters_above j k s a h = ⊎_elim (λ l. l) (λ l. absurd (a (upto_more k j s l h.0))) (cases_lt j k)
+
   pub enters_within : (j k s : ℕ) → Upto start step j s → Enters (Upto start step) k s → k ≤ j
   enters_within j k s a h = grind (arith, h.1 j, a)
 

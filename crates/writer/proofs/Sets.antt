@@ -1,6 +1,7 @@
 -- The bytes of a set, given by the bytes of its 32 groups.
 use Rattle.std.proofs.Common.{◌≡◌, ℕ, ◌+◌, ◌*◌, ◌<◌, ◌≤◌, ltb, List, [], ◌∷◌, ◌++◌, map, length, get_or, take, refl, ap, ◌∙◌, arith}
 use lib.ListN.{length-map}
+use Rattle.std.proofs.lemmas.List.{length_push}
 use Rattle.std.proofs.lemmas.Bool.{lt-ltb, le-ltb}
 use Rattle.game.specs.Below.{below}
 use Rattle.game.proofs.Below.{below_same, map_yes, map_no, map_same, rank_le, rank_lt}
@@ -17,6 +18,9 @@ groups_yes gs n h = map_yes (λ g. get_or gs g 0) (full gs) n (lt-ltb 0 (get_or 
 pub groups_no : (gs : List ℕ) (n : ℕ) → get_or gs n 0 ≤ 0 → groups_in gs (n + 1) ≡ groups_in gs n
 unfolding groups_in
 groups_no gs n h = map_no (λ g. get_or gs g 0) (full gs) n (le-ltb 0 (get_or gs n 0) h)
+
+pub length_groups_yes : (gs : List ℕ) (n : ℕ) → 0 < get_or gs n 0 → length (groups_in gs (n + 1)) ≡ length (groups_in gs n) + 1
+length_groups_yes gs n h = ap length (groups_yes gs n h) ∙ length_push (groups_in gs n) (get_or gs n 0)
 
 -- the groups of a list of states give its bytes
 module _ (gs xs : List ℕ) (same : Gathers gs xs) where
@@ -42,10 +46,14 @@ module _ (gs xs : List ℕ) (same : Gathers gs xs) where
       let e = groups_is in
       cc
 
--- the number of bytes
+-- the number of bytes so far, and of all
 pub length_packed : (gs : List ℕ) → length (packed gs) ≡ 4 + length (groups_in gs 32)
 unfolding packed
 length_packed gs = omega arith
+
+pub groups_le : (gs : List ℕ) (n : ℕ) → length (groups_in gs n) ≤ n
+unfolding groups_in
+groups_le gs n = rw length-map (rank_le (full gs) n)
 
 -- the first four bytes are the map
 pub packed_at : (gs : List ℕ) (j : ℕ) → j < 4 → get_or (packed gs) j 0 ≡ map_of gs j
